@@ -1,0 +1,5 @@
+pub mod Causes
+pub mod Files
+pub mod Sinks
+pub mod MemFiles
+pub mod MemSink
