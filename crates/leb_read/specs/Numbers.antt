@@ -1,5 +1,6 @@
 -- The spellings of numbers (Core 1.0, 5.2.2), low bits first, seven to a byte.
-use Rattle.std.specs.Prelude.{◌≡◌, ℕ, ◌+◌, ◌-◌, ◌*◌, ◌^◌, ◌<◌, ◌≤◌, ◌⊎◌, List, [], ◌∷◌, ◌++◌, length, ℤ, pos, ◌+ℤ◌, ◌-ℤ◌, ◌*ℤ◌, All}
+use Rattle.std.specs.Prelude.{◌≡◌, ℕ, ◌+◌, ◌-◌, ◌*◌, ◌^◌, ◌<◌, ◌≤◌, ◌⊎◌, ℤ, pos, ◌+ℤ◌, ◌-ℤ◌, ◌*ℤ◌}
+use Rattle.std.specs.Prelude.{List, [], ◌∷◌, ◌++◌, length, All}
 
 -- Core 1.0, 5.2.2, unsigned integers: these bytes spell v as a number of N bits. A byte below 2 ^ 7 and 2 ^ N
 -- stands for itself; one from 2 ^ 7 on has the low seven bits, and the bytes after it spell the others.
@@ -7,7 +8,8 @@ abbrev pub SpellsUnsigned : (N : ℕ) → List ℕ → (v : ℕ) → Type 0
 SpellsUnsigned N [] v = ⊥
 SpellsUnsigned N (n ∷ []) v = (n < 2 ^ 7) × (n < 2 ^ N) × (v ≡ n)
 SpellsUnsigned N (n ∷ next ∷ rest) v =
-    (2 ^ 7 ≤ n) × (n < 2 ^ 8) × (7 < N) × (m : ℕ) × SpellsUnsigned (N - 7) (next ∷ rest) m × (v ≡ 2 ^ 7 * m + (n - 2 ^ 7))
+    (2 ^ 7 ≤ n) × (n < 2 ^ 8) × (7 < N)
+    × (m : ℕ) × SpellsUnsigned (N - 7) (next ∷ rest) m × (v ≡ 2 ^ 7 * m + (n - 2 ^ 7))
 
 -- Core 1.0, 5.2.2, signed integers: these bytes spell v as a number of N bits. The last byte's bit 6 is the sign.
 abbrev pub SpellsSigned : (N : ℕ) → List ℕ → (v : ℤ) → Type 0
@@ -16,7 +18,8 @@ SpellsSigned N (n ∷ []) v =
     ((n < 2 ^ 6) × (n < 2 ^ (N - 1)) × (v ≡ pos n))
     ⊎ ((2 ^ 6 ≤ n) × (n < 2 ^ 7) × (2 ^ 7 ≤ n + 2 ^ (N - 1)) × (v ≡ pos n -ℤ pos (2 ^ 7)))
 SpellsSigned N (n ∷ next ∷ rest) v =
-    (2 ^ 7 ≤ n) × (n < 2 ^ 8) × (7 < N) × (m : ℤ) × SpellsSigned (N - 7) (next ∷ rest) m × (v ≡ pos (2 ^ 7) *ℤ m +ℤ pos (n - 2 ^ 7))
+    (2 ^ 7 ≤ n) × (n < 2 ^ 8) × (7 < N)
+    × (m : ℤ) × SpellsSigned (N - 7) (next ∷ rest) m × (v ≡ pos (2 ^ 7) *ℤ m +ℤ pos (n - 2 ^ 7))
 
 -- a byte that says that another byte of the number follows
 abbrev pub Continues : ℕ → Type 0

@@ -1,5 +1,6 @@
 -- What reading a number answers, in words that both signs and all widths share.
-use Rattle.std.specs.Prelude.{◌≡◌, ◌↔◌, ℕ, ◌-◌, ◌^◌, ◌<◌, ◌≤◌, ◌⊎◌, List, ◌++◌, Result, Ok, Err, IfOk, OnErr}
+use Rattle.std.specs.Prelude.{◌≡◌, ◌↔◌, ℕ, ◌-◌, ◌^◌, ◌<◌, ◌≤◌, ◌⊎◌, List, ◌++◌}
+use Rattle.std.specs.Prelude.{Result, Ok, Err, IfOk, OnErr}
 use Rattle.leb_read.specs.Place.{Place, Reads}
 use Rattle.leb_read.specs.declared.fault.LebFault.{LebFault}
 use Rattle.leb_read.specs.declared.fault.LebFault.TheVariants.{Short, TooLong}
@@ -24,7 +25,8 @@ MayEndSigned bits n = (n < 2 ^ (bits - 1)) ⊎ ((2 ^ 7 - 2 ^ (bits - 1) ≤ n) �
 
 -- What a cursor answers that was to read a number of at most this many bytes. The number is spelled by the bytes
 -- passed over; whatever is spelled at the cursor is answered; each refusal has its one cause and leaves the place.
-pub record AnswersNumber {V : Type 0} (Spells : List ℕ → V → Type 0) (most : ℕ) (MayBeLast : ℕ → Type 0) (old new : Place) (result : Result V LebFault) : Type 0 where
+pub record AnswersNumber {V : Type 0} (Spells : List ℕ → V → Type 0) (most : ℕ) (MayBeLast : ℕ → Type 0)
+    (old new : Place) (result : Result V LebFault) : Type 0 where
   pub ok : IfOk result (λ v. Reads (λ spelling. Spells spelling v) old new)
   pub only : (v : V) (spelling rest : List ℕ) → Spells spelling v → old.left ≡ spelling ++ rest → result ≡ Ok v
   pub short : (result ≡ Err Short) ↔ EndsInside most old.left

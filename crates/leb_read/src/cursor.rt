@@ -1,5 +1,6 @@
-ghost use Rattle.std.specs.Prelude.{◌≡◌, ◌+◌, ◌<◌, ◌≤◌, ◌^◌, ◌⊎◌, ℕ, ℤ, List, ◌∷◌, [], ◌++◌, length, IfOk, OnErr, ◌↔◌, IsErr};
-ghost use Rattle.leb_read.specs.Numbers.{SpellsUnsigned, SpellsSigned, MayEndU32, MayEndS32, MayEndS64};
+ghost use Rattle.std.specs.Prelude.{◌≡◌, ◌<◌, ◌↔◌, [], ◌∷◌, length, IfOk, OnErr, IsErr};
+ghost use Rattle.leb_read.specs.Numbers.{SpellsUnsigned, SpellsSigned};
+ghost use Rattle.leb_read.specs.Numbers.{MayEndU32, MayEndS32, MayEndS64};
 ghost use Rattle.leb_read.specs.Place.{Passes};
 ghost use Rattle.leb_read.specs.Reading.{AnswersNumber};
 

@@ -1,16 +1,19 @@
-ghost use Rattle.std.specs.Prelude.{◌≡◌, ◌+◌, ◌*◌, ◌^◌, ◌<◌, ◌≤◌, [], ◌∷◌, MatchResult, MatchOption, List, ℕ, ◌++◌};
+ghost use Rattle.std.specs.Prelude.{◌+◌, ◌*◌, ◌<◌, ◌≤◌, [], ◌∷◌, MatchResult, MatchOption};
 ghost use Rattle.leb_read.specs.Numbers.{SpellsUnsigned, SpellsSigned};
 ghost use Rattle.leb_read.specs.Reading.{IsRead, Cause, MayEndUnsigned, MayEndSigned};
 
 use crate::LebFault;
 
 /// The unsigned number at the front and the bytes after it, in at most `more` bytes that continue
-/// and one of which the number has `last_bits` bits.
+/// and one of which the number has `last_bits` bits. A number has ten bytes at most, and the calls
+/// nest no deeper.
 pub fn unsigned(more: u32, last_bits: u32, bytes: &[u8]) -> Result<(u64, &[u8]), LebFault>
     requires some { 1 ≤ last_bits }
     requires fits { 7 * more + last_bits ≤ 64 }
     requires last { last_bits ≤ 7 }
-    ensures read { MatchResult result (λ x. IsRead (λ s. SpellsUnsigned (7 * more + last_bits) s x.0) bytes.now x.1.now) (λ e. Cause (MayEndUnsigned last_bits) (more + 1) bytes.now e) }
+    ensures { MatchResult result
+        (λ x. IsRead (λ s. SpellsUnsigned (7 * more + last_bits) s x.0) bytes.now x.1.now)
+        (λ e. Cause (MayEndUnsigned last_bits) (more + 1) bytes.now e) }
 {
     let Some((&first, rest)) = bytes.split_first() else {
         return Err(LebFault::Short);
@@ -35,7 +38,9 @@ pub fn signed(more: u32, last_bits: u32, bytes: &[u8]) -> Result<(i64, &[u8]), L
     requires some { 1 ≤ last_bits }
     requires fits { 7 * more + last_bits ≤ 64 }
     requires last { last_bits ≤ 7 }
-    ensures read { MatchResult result (λ x. IsRead (λ s. SpellsSigned (7 * more + last_bits) s x.0) bytes.now x.1.now) (λ e. Cause (MayEndSigned last_bits) (more + 1) bytes.now e) }
+    ensures { MatchResult result
+        (λ x. IsRead (λ s. SpellsSigned (7 * more + last_bits) s x.0) bytes.now x.1.now)
+        (λ e. Cause (MayEndSigned last_bits) (more + 1) bytes.now e) }
 {
     let Some((&first, rest)) = bytes.split_first() else {
         return Err(LebFault::Short);
@@ -58,7 +63,7 @@ pub fn signed(more: u32, last_bits: u32, bytes: &[u8]) -> Result<(i64, &[u8]), L
 fn last_signed(bits: u32, last: u8) -> Option<i64>
     requires some { 1 ≤ bits }
     requires fits { bits ≤ 7 }
-    ensures { MatchOption result (MayEndSigned bits last → ⊥) (λ v. SpellsSigned bits (last ∷ []) v) }
+    ensures { MatchOption result (¬ MayEndSigned bits last) (λ v. SpellsSigned bits (last ∷ []) v) }
 {
     let half = 1 << (bits - 1);
     if last < half {

@@ -9,12 +9,12 @@ use Rattle.leb_read.proofs.cursor.Cursor.s32.Goals as goal
 pub returns-in_err-value : goal.returns-in_err-value
 returns-in_err-value c =
     let p = err_from_is_err_and c.from_residual.result c.from_residual.ensures.1 in
-    answers_refused (SpellsSigned 32) 4 MayEndS32 _ _ _ _ s32_spelled (ap (λ (q : Place). q.left) (sym c.self.view_is)) (p.1 ∙ ap Err p.2) c.in_err-value.ensures.read
+    answers_refused (SpellsSigned 32) 4 MayEndS32 _ _ _ _ s32_spelled (ap (λ (q : Place). q.left) (sym c.self.view_is)) (p.1 ∙ ap Err p.2) c.in_err-value.ensures
 
 pub overflow_cast-result : goal.overflow_cast-result
-overflow_cast-result c = fits32 _ _ c.in_ok-value.ensures.read.1
+overflow_cast-result c = fits32 _ _ c.in_ok-value.ensures.1
 
 pub returns : goal.returns
 returns c =
     answers_same (SpellsSigned 32) 4 MayEndS32 _ _ _ _ _ _ s32_spelled (ap (λ (q : Place). q.left) (sym c.self.view_is)) refl
-    (omega (arith, ap (λ (q : Place). q.at) c.self.view_is)) (same32 _ _ c.in_ok-value.ensures.read.1) c.in_ok-value.ensures.read
+    (omega (arith, ap (λ (q : Place). q.at) c.self.view_is)) (same32 _ _ c.in_ok-value.ensures.1) c.in_ok-value.ensures

@@ -9,9 +9,9 @@ use Rattle.leb_read.proofs.cursor.Cursor.s64.Goals as goal
 pub returns-in_err-value : goal.returns-in_err-value
 returns-in_err-value c =
     let p = err_from_is_err_and c.from_residual.result c.from_residual.ensures.1 in
-    answers_refused (SpellsSigned 64) 9 MayEndS64 _ _ _ _ s64_spelled (ap (λ (q : Place). q.left) (sym c.self.view_is)) (p.1 ∙ ap Err p.2) c.in_err-value.ensures.read
+    answers_refused (SpellsSigned 64) 9 MayEndS64 _ _ _ _ s64_spelled (ap (λ (q : Place). q.left) (sym c.self.view_is)) (p.1 ∙ ap Err p.2) c.in_err-value.ensures
 
 pub returns : goal.returns
 returns c =
     answers_same (SpellsSigned 64) 9 MayEndS64 _ _ _ _ _ _ s64_spelled (ap (λ (q : Place). q.left) (sym c.self.view_is)) refl
-    (omega (arith, ap (λ (q : Place). q.at) c.self.view_is)) (same64 64 _ c.in_ok-value.ensures.read.0 (omega arith) (omega arith) c.in_ok-value.ensures.read.1) c.in_ok-value.ensures.read
+    (omega (arith, ap (λ (q : Place). q.at) c.self.view_is)) (same64 64 _ c.in_ok-value.ensures.0 (omega arith) (omega arith) c.in_ok-value.ensures.1) c.in_ok-value.ensures

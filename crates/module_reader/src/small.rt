@@ -1,0 +1,42 @@
+ghost use Rattle.std.specs.Prelude.{◌≡◌, List, IfOk, IfSome, IfNone};
+ghost use Rattle.wasm_form.specs.Small.{SmallInstr};
+ghost use Rattle.wasm_form.specs.Form.{Small, module_of};
+
+use crate::frame::instructions_of;
+use crate::line::read_line;
+use memory_refusal::NoMemory;
+use std::alloc::Global;
+use wasm_form::{Bodies, Body, Expr, Imm, Indexes, Instr, Matches, Module, Runs};
+
+/// The instruction that ends an expression.
+const END: Instr = Instr {
+    code: 0x0B,
+    imm: Imm::None,
+};
+
+/// The module that the bytes are, where they are of the one form; none exactly where no list of
+/// instructions makes them so. `NoMemory` where the machine has no memory for it.
+pub fn read_small(alloc: Global, bytes: &[u8]) -> Result<Option<Module>, NoMemory>
+    ensures found { IfOk result (λ read. IfSome read (λ m.
+        (list : List SmallInstr) × Small bytes.now list × (m ≡ module_of list))) }
+    ensures none { IfOk result (λ read. IfNone read (
+        (list : List SmallInstr) → ¬ Small bytes.now list)) }
+{
+    let Some(code) = instructions_of(bytes) else {
+        return Ok(None);
+    };
+    let Some(mut code) = read_line(alloc, code)? else {
+        return Ok(None);
+    };
+    code.push(END)?;
+    let mut bodies = Bodies::new(alloc);
+    bodies.push(Body {
+        locals: Runs::new(alloc),
+        expr: Expr {
+            code,
+            labels: Indexes::new(alloc),
+            matches: Matches::new(alloc),
+        },
+    })?;
+    Ok(Some(Module::new(bodies)))
+}

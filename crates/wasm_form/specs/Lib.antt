@@ -1,0 +1,4 @@
+pub mod Contents
+pub mod Small
+pub mod Operands
+pub mod Form
