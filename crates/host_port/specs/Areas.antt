@@ -1,0 +1,41 @@
+use Rattle.std.specs.Prelude.{ℕ, ◌+◌, ◌<◌, ◌≤◌, ◌≡◌, Option, Some, None, List, [], ◌∷◌, length, drop, take, nat_le, Bool, cond}
+use Rattle.std.specs.List.{list_all}
+use Rattle.host_port.specs.declared.ask.Ask.{Ask}
+use Rattle.host_port.specs.declared.request.Request.{Request}
+use Rattle.host_port.specs.HostTable.{Area, areas_read, areas_of}
+
+-- an area lies in the memory; without a memory, that has no bytes
+abbrev pub fits_in : List ℕ → Area → Bool
+fits_in memory area = nat_le (area.addr + area.len) (length memory)
+
+-- each area that an ask reads or writes lies in the memory
+abbrev pub areas_fit : List ℕ → Ask → Bool
+areas_fit memory ask = list_all (λ area. fits_in memory area) (areas_of ask)
+
+-- the bytes of an area that lies in the memory
+abbrev pub bytes_at : List ℕ → Area → List ℕ
+bytes_at memory area = take area.len (drop area.addr memory)
+
+-- the bytes of the first of these areas, if there is one
+abbrev pub first_bytes : List ℕ → List Area → List ℕ
+first_bytes memory [] = []
+first_bytes memory (area ∷ areas) = bytes_at memory area
+
+-- the areas after the first
+abbrev pub later_areas : List Area → List Area
+later_areas [] = []
+later_areas (area ∷ areas) = areas
+
+-- the request of an ask at this memory: with the bytes of the first and the second area that it reads where all its areas fit
+abbrev pub request_of : List ℕ → Ask → Request
+request_of memory ask = record {
+  ask = ask;
+  fits = areas_fit memory ask;
+  first = cond (areas_fit memory ask) (first_bytes memory (areas_read ask)) [];
+  second = cond (areas_fit memory ask) (first_bytes memory (later_areas (areas_read ask))) [];
+}
+
+-- what a read of an area gives: its bytes where it lies in the memory, and nothing exactly where it does not
+abbrev pub IsRead : List ℕ → Area → Option (List ℕ) → Type 0
+IsRead memory area None = length memory < area.addr + area.len
+IsRead memory area (Some bytes) = (area.addr + area.len ≤ length memory) × (bytes ≡ bytes_at memory area)

@@ -1,0 +1,11 @@
+pub mod Allowance
+pub mod TypedValue
+pub mod HostTable
+pub mod HostRows
+pub mod Areas
+pub mod Forms
+pub mod Memory
+pub mod Standing
+pub mod Steps
+pub mod Turn
+pub mod TurnLaws
