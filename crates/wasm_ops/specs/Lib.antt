@@ -1,0 +1,5 @@
+pub mod Integers
+pub mod Names
+pub mod Operations
+pub mod Table
+pub mod Trap

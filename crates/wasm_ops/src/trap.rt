@@ -1,3 +1,5 @@
+ghost use Rattle.std.specs.Prelude.{◌≡◌};
+
 /// Why an instruction trapped (Core 1.0, 4.4).
 #[derive(Clone, Copy, Debug, PartialEq, Eq)]
 pub enum Trap {
@@ -15,4 +17,23 @@ pub enum Trap {
     NoElement,
     /// `call_indirect` of a function of another type.
     WrongType,
+}
+
+impl Trap {
+    ghost use Rattle.wasm_ops.specs.Trap.{word_of};
+
+    /// The word that a report has for this trap.
+    pub fn word(self) -> &'static str
+        ensures { result.now ≡ word_of self }
+    {
+        match self {
+            Trap::Unreachable => "unreachable",
+            Trap::DivideByZero => "divide",
+            Trap::Overflow => "overflow",
+            Trap::Bounds => "bounds",
+            Trap::TableBounds => "table",
+            Trap::NoElement => "element",
+            Trap::WrongType => "type",
+        }
+    }
 }

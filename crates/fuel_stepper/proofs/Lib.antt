@@ -1,0 +1,4 @@
+pub mod Stacks
+pub mod Codes
+pub mod Lines
+pub mod Running

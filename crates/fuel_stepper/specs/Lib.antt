@@ -1,0 +1,4 @@
+pub mod Stack
+pub mod Progress
+pub mod Effect
+pub mod Instance

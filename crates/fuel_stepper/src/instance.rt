@@ -1,0 +1,91 @@
+ghost use Rattle.std.specs.Prelude.{◌≡◌, List, IfOk, map, take, min, length};
+ghost use Rattle.wasm_form.specs.Form.{IsSmallModule, module_of};
+ghost use Rattle.wasm_form.specs.Small.{SmallInstr, instr_of};
+ghost use Rattle.fuel_stepper.specs.Progress.{StepsTo, begins};
+
+use crate::Stop;
+use crate::step::execute_all;
+use memory_refusal::NoMemory;
+use std::alloc::Global;
+use std::marker::Model;
+use wasm_form::{Instr, Module};
+
+/// A module that is being executed.
+///
+/// Contracts see the module, how many of its instructions were executed and its operands.
+#[derive(Drop)]
+pub struct Instance {
+    module: Module,
+    values: Vec<u64>,
+    height: usize,
+    executed: usize,
+}
+
+impl Model for Instance {
+    ghost use Rattle.fuel_stepper.specs.Progress.{Progress};
+    ghost use Rattle.fuel_stepper.specs.Stack.{stack_of};
+    ghost use Rattle.fuel_stepper.specs.Instance.{IsRunning};
+
+    ghost Value = { Progress };
+
+    ghost view = { λ s. record {
+      module_is = s.«module»;
+      executed = s.executed;
+      operands = stack_of s.values.items s.height;
+    } };
+
+    ghost invariant = { λ s. IsRunning s.«module» s.values.items s.height s.executed };
+}
+
+impl Instance {
+    /// An instance that begins on the module, which is one that `read_small` gives.
+    pub fn of(alloc: Global, module: Module) -> Result<Instance, NoMemory>
+        requires small { IsSmallModule «module» }
+        ensures { IfOk result (λ instance. instance ≡ begins «module») }
+    {
+        let room = module.bodies()[0].expr.code.len();
+        Ok(Instance {
+            values: vec![in alloc; 0; room]?,
+            module,
+            height: 0,
+            executed: 0,
+        })
+    }
+
+    /// Executes at most `budget` instructions, and tells how many they were. It takes no memory.
+    ///
+    /// `Slice` comes exactly where another instruction is to come. The end of the body is no instruction. Once `Done`
+    /// was answered, each further step executes nothing and answers it again.
+    pub fn step(&mut self, budget: u64) -> (Stop, u64)
+        ensures { (list : List SmallInstr) → self.old.module_is ≡ module_of list
+            → StepsTo list budget self.old result.0 result.1 self.new }
+    {
+        let left = &instructions(&self.module)[self.executed..];
+        let next = first_of(left, budget);
+        let count = next.len();
+        let stop = if count == left.len() {
+            Stop::Done
+        } else {
+            Stop::Slice
+        };
+        self.height = execute_all(next, self.values.as_mut_slice(), self.height);
+        self.executed += count;
+        (stop, count as u64)
+    }
+}
+
+/// The instructions of a small module, without the end of the body.
+fn instructions(small: &Module) -> &[Instr]
+    requires small { (list : List SmallInstr) × (small.now ≡ module_of list) }
+    ensures { (list : List SmallInstr) → small.now ≡ module_of list → result.now ≡ map instr_of list }
+{
+    let code = small.bodies()[0].expr.code.as_slice();
+    &code[..code.len() - 1]
+}
+
+/// The first instructions, as many as the budget allows.
+fn first_of(code: &[Instr], budget: u64) -> &[Instr]
+    ensures { result.now ≡ take (min budget (length code.now)) code.now }
+{
+    &code[..code.len().min(budget as usize)]
+}

@@ -1,0 +1,20 @@
+//! Instructions that take numbers from the stack and put numbers there.
+ghost use Rattle.std.specs.Prelude.{◌≡◌, ℕ, ◌+◌, ◌≤◌, List, length};
+ghost use Rattle.wasm_form.specs.Small.{I32Add};
+ghost use Rattle.wasm_form.specs.Operands.{Executes};
+ghost use Rattle.fuel_stepper.specs.Stack.{stack_of};
+
+/// The bits of a number of 32 bits.
+const LOW_32: u64 = 0xffff_ffff;
+
+/// `i32.add` (Core 1.0, 4.3.2): the sum of the two operands on top, modulo 2^32, takes their place.
+#[inline(always)]
+pub fn i32_add(values: &mut [u64], height: usize) -> usize
+    requires two { 2 ≤ height }
+    requires within { height ≤ length values.old }
+    ensures height { result + 1 ≡ height }
+    ensures sum { (after : List ℕ) → Executes I32Add (stack_of values.old height) after → stack_of values.new result ≡ after }
+{
+    values[height - 2] = values[height - 2].wrapping_add(values[height - 1]) & LOW_32;
+    height - 1
+}

@@ -1,0 +1,35 @@
+-- The module file, and what it may be.
+use Rattle.std.specs.Prelude.{◌≡◌, ℕ, ◌<◌, ◌≤◌, List, length, Option, Some, None, IfSome}
+use Rattle.outside.specs.Files.{Contents}
+use Rattle.wasm_form.specs.Small.{SmallInstr}
+use Rattle.wasm_form.specs.Form.{Small}
+
+-- the longest module file, in bytes
+abbrev pub file_limit : ℕ
+file_limit = 16777216
+
+-- these are the bytes of the file of this name, where the store tells them, and they are no longer than a file may be
+pub record IsContent (content : Option Contents) (name bytes : List ℕ) : Type 0 where
+  pub within : length bytes ≤ file_limit
+  pub told : IfSome content (λ files. files name ≡ Some bytes)
+
+-- the file is missing or too long
+abbrev pub IsUnreadable : Option (List ℕ) → Type 0
+IsUnreadable None = Unit {0}
+IsUnreadable (Some bytes) = file_limit < length bytes
+
+-- no list of instructions makes the bytes a small module
+abbrev pub IsUnbuilt : List ℕ → Type 0
+IsUnbuilt bytes = (list : List SmallInstr) → ¬ Small bytes list
+
+-- the file has bytes that no list of instructions makes a small module
+pub record HasUnbuilt (content : Option Contents) (name : List ℕ) : Type 0 where
+  pub bytes : List ℕ
+  pub is_content : IsContent content name bytes
+  pub is_unbuilt : IsUnbuilt bytes
+
+-- the file is the small module with this list of instructions
+pub record HasSmall (content : Option Contents) (name : List ℕ) (list : List SmallInstr) : Type 0 where
+  pub bytes : List ℕ
+  pub is_content : IsContent content name bytes
+  pub is_small : Small bytes list

@@ -1,0 +1,17 @@
+-- What writing a text leaves in a sink that tells what was written.
+use Rattle.std.specs.Prelude.{◌≡◌, ℕ, ◌≤◌, List, length, take, Option}
+use Rattle.std.specs.Io.KnownBytes.{append_known}
+use Rattle.outside.specs.Causes.{Stayed}
+
+-- the whole text was appended
+abbrev pub AppendsAll : Option (List ℕ) → Option (List ℕ) → List ℕ → Type 0
+AppendsAll old new text = new ≡ append_known old text
+
+-- a front of the text was appended; nothing and the whole of it are among the fronts
+abbrev pub AppendsFront : Option (List ℕ) → Option (List ℕ) → List ℕ → Type 0
+AppendsFront old new text = (n : ℕ) × (n ≤ length text) × (new ≡ append_known old (take n text))
+
+-- a front of the line was appended, and the whole line where the sink's count of faults stayed
+pub record WritesLine (line : List ℕ) (before now : ℕ) (old new : Option (List ℕ)) : Type 0 where
+  pub front : AppendsFront old new line
+  pub whole : Stayed before now → AppendsAll old new line

@@ -1,0 +1,10 @@
+//! The processes that stand under names.
+//!
+//! It is seen as a finite map from names, which are lists of bytes, to process numbers.
+#![tactic(auto)]
+
+mod registry;
+#[cfg(test)]
+mod tests;
+
+pub use registry::Registry;

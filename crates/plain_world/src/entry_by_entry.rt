@@ -1,0 +1,24 @@
+ghost use Rattle.std.specs.Prelude.{IfOk};
+ghost use Rattle.journal.specs.World.{World};
+ghost use Rattle.journal.specs.Plain.{Shows};
+ghost use Rattle.plain_world.specs.Applied.{IsApplied};
+
+use journal::{Entry, PlainWorld};
+use memory_refusal::NoMemory;
+use std::alloc::Global;
+
+/// The world after this entry; None exactly where the entry is not allowed.
+pub fn apply(
+    alloc: Global,
+    world: PlainWorld,
+    entry: &Entry,
+) -> Result<Option<PlainWorld>, NoMemory>
+    ensures { IfOk result (λ next. (w : World) → Shows world w → IsApplied w entry.now next) }
+{
+    if !world.allows(entry) {
+        return Ok(None);
+    }
+    let mut world = world;
+    world.advance(alloc, entry)?;
+    Ok(Some(world))
+}

@@ -1,0 +1,117 @@
+//! Deadlines by process number, in room that was made beforehand.
+ghost use Rattle.std.specs.Prelude.{◌≡◌, ◌==◌, ◌<◌, ◌≤◌, ◌↔◌, ℕ, false, position, MatchOption, IsTrue, OnOk};
+ghost use Rattle.std.specs.Ordering.{nat_cmp};
+ghost use Rattle.std.specs.FinMap as map;
+ghost use Rattle.run_queue.specs.Schedule.{IsDue, IsLeastDue, IsLeastOf, due_numbers, lesser_of};
+
+use memory_refusal::NoMemory;
+use std::alloc::Global;
+use std::marker::Model;
+
+/// Each process that waits with a deadline, once, in no order.
+#[derive(Drop)]
+pub struct Deadlines {
+    entries: Vec<(u64, u64)>,
+}
+
+impl Model for Deadlines {
+    ghost use Rattle.std.specs.Prelude.{◌≡◌, length, vec_capacity};
+    ghost use Rattle.std.specs.Ordering.{nat_cmp};
+    ghost use Rattle.std.specs.FinMap as map;
+    ghost use Rattle.run_queue.specs.Schedule.{Places, places_code};
+
+    ghost Value = { Places };
+
+    ghost coded = { places_code };
+
+    ghost view = { λ a. record { deadlines = map.from_entries a.entries.items; room = vec_capacity a.entries } };
+
+    ghost invariant = { λ a. map.len (map.from_entries {R = nat_cmp} a.entries.items) ≡ length a.entries.items };
+}
+
+impl Deadlines {
+    pub fn new(alloc: Global) -> Deadlines
+        ensures { result.deadlines ≡ map.empty }
+    {
+        Deadlines {
+            entries: Vec::new(alloc),
+        }
+    }
+
+    /// Makes room for `count` deadlines altogether.
+    pub fn reserve(&mut self, count: usize) -> Result<(), NoMemory>
+        ensures deadlines { self.new.deadlines ≡ self.old.deadlines }
+        ensures room { self.old.room ≤ self.new.room }
+        ensures ok { OnOk result (count ≤ self.new.room) }
+    {
+        self.entries
+            .reserve(count.saturating_sub(self.entries.len()))?;
+        Ok(())
+    }
+
+    /// Gives a process this deadline, in place of an earlier one or in a place of the room.
+    pub fn set(&mut self, pid: u64, at: u64)
+        requires { map.contains_key self.old.deadlines pid ≡ false → map.len self.old.deadlines < self.old.room }
+        ensures deadlines { self.new.deadlines ≡ map.insert self.old.deadlines pid at }
+        ensures room { self.old.room ≤ self.new.room }
+    {
+        match place_of(&self.entries, pid) {
+            Some(place) => self.entries[place] = (pid, at),
+            None => match self.entries.push((pid, at)) {
+                Ok(()) => {}
+                Err(_) => unreachable!(),
+            },
+        }
+    }
+
+    /// Takes a process's deadline away.
+    pub fn clear(&mut self, pid: u64)
+        ensures deadlines { self.new.deadlines ≡ map.remove self.old.deadlines pid }
+        ensures room { self.new.room ≡ self.old.room }
+    {
+        self.entries.retain(|entry| entry.0 != pid);
+    }
+
+    /// The least number whose deadline is at most `now`.
+    pub fn least_due(&self, now: u64) -> Option<u64>
+        ensures { MatchOption result ((pid : ℕ) → ¬ IsDue self.now.deadlines now pid) (IsLeastDue self.now.deadlines now) }
+    {
+        least_of_due(&self.entries, now)
+    }
+
+    pub fn is_empty(&self) -> bool
+        ensures { IsTrue result ↔ (map.len self.now.deadlines ≡ 0) }
+    {
+        self.entries.is_empty()
+    }
+}
+
+/// The place of a process among the entries.
+fn place_of(entries: &[(u64, u64)], pid: u64) -> Option<usize>
+    ensures { result ≡ position (λ entry. entry.0 == pid) entries.now }
+{
+    entries.iter().position(|entry| entry.0 == pid)
+}
+
+/// The least number among the entries whose deadline is at most `now`.
+fn least_of_due(entries: &[(u64, u64)], now: u64) -> Option<u64>
+    ensures { IsLeastOf result (due_numbers now entries.now) }
+{
+    let mut least = None;
+    for &(pid, at) in entries {
+        if at <= now {
+            least = Some(lesser(least, pid));
+        }
+    }
+    least
+}
+
+/// The lesser of two numbers, of which the first may be missing.
+fn lesser(least: Option<u64>, pid: u64) -> u64
+    ensures { result ≡ lesser_of least pid }
+{
+    match least {
+        Some(other) => other.min(pid),
+        None => pid,
+    }
+}

@@ -1,0 +1,29 @@
+use Rattle.std.specs.Prelude.{◌≡◌, ℕ, List, ◌∷◌, ◌++◌, All, replicate}
+use Rattle.std.specs.List.{flat_map}
+use Rattle.std.specs.Int.{w32, w64, to_le_bytes}
+use Rattle.wasm_ops.specs.declared.num.Num.{Num}
+use Rattle.wasm_ops.specs.declared.num.Num.TheVariants.{I32, I64}
+use Rattle.host_port.specs.TypedValue.{TypedValue, IsInRange}
+
+-- Core 1.0, 5.3.1, value types: the byte of a type
+abbrev pub type_byte : Num → ℕ
+type_byte I32 = 0x7F
+type_byte I64 = 0x7E
+
+-- sixteen little-endian bytes, of which those past the first four or eight are zero
+abbrev pub value_bytes : Num → ℕ → List ℕ
+value_bytes I32 value = to_le_bytes w32 value ++ replicate 12 0
+value_bytes I64 value = to_le_bytes w64 value ++ replicate 8 0
+
+-- a parameter: the byte of its type, and the bytes of its value
+abbrev pub param_bytes : TypedValue → List ℕ
+param_bytes param = type_byte param.num ∷ value_bytes param.num param.value
+
+-- parameters: one after another
+abbrev pub spelling : List TypedValue → List ℕ
+spelling params = flat_map param_bytes params
+
+-- the bytes spell these parameters, each of which its type can hold
+pub record Spells (bytes : List ℕ) (params : List TypedValue) : Type 0 where
+  pub spelled : bytes ≡ spelling params
+  pub in_range : All (λ param. IsInRange param.num param.value) params

@@ -1,0 +1,3 @@
+pub mod Tags
+pub mod Firsts
+pub mod PlaceLemmas

@@ -1,0 +1,46 @@
+//! The program `tickmonel`: makes the real store of files and standard output, calls `lunatic`, and ends with the
+//! status that it answers.
+//!
+//! What the program does is `lunatic`'s contract, in the crate `lunatic_cli`. What real files and standard output hold
+//! is told by no clause.
+#![tactic(auto)]
+
+mod real_files;
+mod real_out;
+
+use lunatic_cli::lunatic;
+use memory_refusal::NoMemory;
+use real_files::RealFiles;
+use real_out::RealOut;
+use std::env;
+use std::io::{self, ErrorKind};
+use std::process::ExitCode;
+use std::rt::Env;
+
+/// The status for want of memory.
+const MEMORY: u8 = 8;
+
+fn main(rt: HostRuntime) -> ExitCode {
+    let Ok(words) = given_words(&rt) else {
+        return ExitCode::from(MEMORY);
+    };
+    let mut files = RealFiles::new(&rt);
+    let mut out = RealOut::new(io::writer(&rt));
+    let finish = lunatic(rt.alloc(), words.as_slice(), &mut files, &mut out);
+    ExitCode::from(finish.status)
+}
+
+/// The words after the program's name. Where they are no text there are none, and so they are refused.
+fn given_words(rt: &(impl Env + AllocGlobal)) -> Result<Vec<String>, NoMemory> {
+    let mut words = Vec::new(rt.alloc());
+    match env::args(rt) {
+        Ok(args) => {
+            for word in args.skip(1) {
+                words.push(word)?;
+            }
+        }
+        Err(error) if error.kind() == ErrorKind::OutOfMemory => return Err(NoMemory),
+        Err(_) => {}
+    }
+    Ok(words)
+}
