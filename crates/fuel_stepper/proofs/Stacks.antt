@@ -1,8 +1,6 @@
 -- The first n values of an array, the last of them on top.
-use Rattle.std.proofs.Common.{◌≡◌, ◌≢◌, ℕ, zero, suc, ◌+◌, ◌-◌, ◌%◌, ◌^◌, ◌<◌, ◌≤◌, List, ◌∷◌, length, refl, sym, ap, ◌∙◌, arith, add-one, get_or-set_other, get_or-set_same}
-use Rattle.std.specs.Prelude.{slice_index, slice_set, bit_and}
-use Rattle.std.proofs.Math.Pow.{mod-mod-pow}
-use Rattle.std.proofs.lemmas.Nat.{and_mask}
+use Rattle.std.proofs.Common.{◌≡◌, ◌≢◌, ℕ, zero, suc, ◌+◌, ◌%◌, ◌^◌, ◌<◌, ◌≤◌, List, ◌∷◌, length, refl, sym, ap, ◌∙◌, arith, add-one, get_or-set_other, get_or-set_same}
+use Rattle.std.specs.Prelude.{slice_index, slice_set}
 use Rattle.fuel_stepper.specs.Stack.{stack_of}
 
 -- a write above the stack leaves it
@@ -23,10 +21,6 @@ stack_of-push xs v n h =
     let tail = stack_of-above xs v n n le in
     rw add-one (cc)
 
--- a sum modulo 2^32, as the machine makes it
-masked_sum : (a b : ℕ) → bit_and ((a + b) % 2 ^ 64) 4294967295 ≡ (a + b) % 2 ^ 32
-masked_sum a b = and_mask ((a + b) % 2 ^ 64) 32 ∙ mod-mod-pow (a + b) 32 32
-
 -- the two on top
 two_on_top : (xs : List ℕ) (n i j : ℕ) → n ≡ i + 2 → j ≡ i + 1 → stack_of xs n ≡ slice_index xs j ∷ (slice_index xs i ∷ stack_of xs i)
 two_on_top xs n i j e f =
@@ -35,23 +29,18 @@ two_on_top xs n i j e f =
     ap (λ m. stack_of xs m) n_is ∙ ap (λ m. slice_index xs m ∷ (slice_index xs i ∷ stack_of xs i)) j_is
 
 -- the sum of the two on top takes their place
-pub stack_of-add : (xs : List ℕ) (n i j x y : ℕ) (rest : List ℕ) → n ≡ i + 2 → j ≡ i + 1 → n ≤ length xs →
-    stack_of xs n ≡ y ∷ (x ∷ rest) →
-    stack_of (slice_set xs i (bit_and ((slice_index xs i + slice_index xs j) % 2 ^ 64) 4294967295)) j ≡ ((x + y) % 2 ^ 32) ∷ rest
-stack_of-add xs n i j x y rest e f within stack =
+pub stack_of-add : (xs : List ℕ) (n i j x y sum : ℕ) (rest : List ℕ) → n ≡ i + 2 → j ≡ i + 1 → n ≤ length xs →
+    stack_of xs n ≡ y ∷ (x ∷ rest) → sum ≡ (slice_index xs i + slice_index xs j) % 2 ^ 32 →
+    stack_of (slice_set xs i sum) j ≡ ((x + y) % 2 ^ 32) ∷ rest
+stack_of-add xs n i j x y sum rest e f within stack sum_is =
     let lt : i < length xs = omega arith in
     let top : slice_index xs j ∷ (slice_index xs i ∷ stack_of xs i) ≡ y ∷ (x ∷ rest) = sym (two_on_top xs n i j e f) ∙ stack in
     let x_is : slice_index xs i ≡ x = cc in
     let y_is : slice_index xs j ≡ y = cc in
     let rest_is : stack_of xs i ≡ rest = cc in
-    ap (λ m. stack_of (slice_set xs i (bit_and ((slice_index xs i + slice_index xs j) % 2 ^ 64) 4294967295)) m) f
-    ∙ stack_of-push xs (bit_and ((slice_index xs i + slice_index xs j) % 2 ^ 64) 4294967295) i lt
-    ∙ ap (λ v. v ∷ stack_of xs i) (masked_sum (slice_index xs i) (slice_index xs j))
+    ap (λ m. stack_of (slice_set xs i sum) m) f
+    ∙ stack_of-push xs sum i lt
+    ∙ ap (λ v. v ∷ stack_of xs i) sum_is
     ∙ ap (λ v. ((v + slice_index xs j) % 2 ^ 32) ∷ stack_of xs i) x_is
     ∙ ap (λ v. ((x + v) % 2 ^ 32) ∷ stack_of xs i) y_is
     ∙ ap (λ v. ((x + y) % 2 ^ 32) ∷ v) rest_is
-
--- dropping the top
-pub stack_of-drop : (xs : List ℕ) (n x : ℕ) (rest : List ℕ) → stack_of xs n ≡ x ∷ rest → stack_of xs (n - 1) ≡ rest
-stack_of-drop xs zero x rest e = cc
-stack_of-drop xs (suc k) x rest e = let tail : stack_of xs k ≡ rest = cc in let n : suc k - 1 ≡ k = omega arith in ap (λ m. stack_of xs m) n ∙ tail
