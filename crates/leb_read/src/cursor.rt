@@ -34,6 +34,16 @@ impl<'a> Cursor<'a> {
         Cursor { at: 0, left: bytes }
     }
 
+    /// Another cursor at the same place.
+    pub fn again(&self) -> Cursor<'a>
+        ensures { result ≡ self.now }
+    {
+        Cursor {
+            at: self.at,
+            left: self.left,
+        }
+    }
+
     /// How many bytes lie before the cursor.
     pub fn at(&self) -> usize
         ensures { result ≡ self.now.at }

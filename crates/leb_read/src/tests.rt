@@ -68,6 +68,7 @@ fn passes_over_bytes(rt: HostRuntime) -> Result<(), Fail> {
     let taken = cursor.take(2)?;
     assert_eq!(rt; taken, [2, 3].as_slice());
     assert_eq!(rt; (cursor.at(), cursor.left()), (3, 1));
+    assert_eq!(rt; cursor.again().byte(), Ok(4));
     assert_eq!(rt; cursor.take(2).is_err(), true);
     assert_eq!(rt; cursor.byte(), Ok(4));
     assert_eq!(rt; cursor.byte(), Err(Short));

@@ -2,3 +2,10 @@ pub mod Contents
 pub mod Small
 pub mod Operands
 pub mod Form
+pub mod Values
+pub mod Types
+pub mod Instructions
+pub mod Trees
+pub mod Sections
+pub mod Modules
+pub mod Matching

@@ -6,6 +6,9 @@ pub type Instrs = Vector<Instr>;
 /// Labels or indexes.
 pub type Indexes = Vector<u32>;
 
+/// Bytes.
+pub type Octets = Vector<u8>;
+
 /// The matching places of an expression, by rising `at`.
 pub type Matches = Vector<Match>;
 

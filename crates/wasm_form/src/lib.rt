@@ -1,24 +1,43 @@
-//! WebAssembly modules as values, and the definitions of which bytes spell which module.
+//! WebAssembly modules as values, and the grammar: which bytes spell which module.
 //!
-//! A [`Module`] is seen as the record `Contents` of its parts, each part a list. So far the one
-//! part is its bodies, and the one spelling is `Small`: a module with one function, which is a
-//! straight line of `nop`, `i32.const`, `i32.add` and `drop`. The law of this crate is that the
-//! same bytes are `Small` with one list of instructions at most.
+//! The [`Parts`] of a module are seen as a record of lists. The grammar is the standard's, by cases,
+//! with lists of instructions as trees; an [`Expr`] is such a tree in the order of its bytes. The
+//! law of this crate is that the same bytes spell one module at most.
+//!
+//! A [`Module`] is so far seen as its bodies alone, and `Small` is the one form that is run: a
+//! function that is a straight line of `nop`, `i32.const`, `i32.add` and `drop`.
 #![tactic(auto)]
 
 mod body;
 mod expr;
+mod fault;
+mod immediates;
 mod instr;
 mod laws;
+mod matching;
 mod module;
+mod name;
+mod parts;
+mod sort;
+mod types;
 mod value_type;
 mod vector;
 
 pub use body::{Bodies, Body, LocalRun, Runs};
-pub use expr::{Expr, Indexes, Instrs, Match, Matches};
+pub use expr::{Expr, Indexes, Instrs, Match, Matches, Octets};
+pub use fault::PartsFault;
+pub use immediates::Immediates;
 pub use instr::{Imm, Instr};
-pub use laws::one_small_list;
+pub use laws::{one_expression, one_module, one_small_list};
+pub use matching::match_blocks;
 pub use module::Module;
+pub use name::Name;
+pub use parts::{
+    Element, Elements, Export, ExportKind, Exports, GlobalDef, Globals, Import, Imported, Imports,
+    Parts, Segment, Segments,
+};
+pub use sort::Sort;
+pub use types::{Bounds, FuncType, FuncTypes, GlobalType, Limits, ValTypes};
 pub use value_type::ValType;
 pub use vector::Vector;
 

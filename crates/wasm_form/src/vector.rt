@@ -28,6 +28,13 @@ impl<T> Vector<T> {
         }
     }
 
+    /// The list of these items.
+    pub fn from_vec(items: Vec<T>) -> Vector<T>
+        ensures { result ≡ items.items }
+    {
+        Vector { items }
+    }
+
     pub fn len(&self) -> usize
         ensures { result ≡ length self.now }
     {
@@ -55,6 +62,17 @@ impl<T: Drop> Vector<T> {
         ensures err { OnErr result (self.new ≡ self.old) }
     {
         self.items.push(item)?;
+        Ok(())
+    }
+}
+
+impl<T: Copy> Vector<T> {
+    /// Adds these items at the end. For want of memory the list stays as it was.
+    pub fn extend(&mut self, items: &[T]) -> Result<(), NoMemory>
+        ensures ok { OnOk result (self.new ≡ self.old ++ items.now) }
+        ensures err { OnErr result (self.new ≡ self.old) }
+    {
+        self.items.extend_from_slice(items)?;
         Ok(())
     }
 }
