@@ -1,0 +1,13 @@
+//! The node: one state of all processes, with the journal of how it came about.
+#![tactic(auto)]
+
+mod mailbox;
+mod message;
+mod node;
+mod process;
+#[cfg(test)]
+mod tests;
+
+pub use message::{Letter, Message};
+pub use node::Node;
+pub use process::{Proc, Taken, Turn};

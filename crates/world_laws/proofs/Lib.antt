@@ -1,0 +1,11 @@
+pub mod ReadyList
+pub mod Goes
+pub mod Takes
+pub mod Gives
+pub mod Worlds
+pub mod Ends
+pub mod Answers
+pub mod AllEnds
+pub mod Firsts
+pub mod Shows
+pub mod Rooms

@@ -1,0 +1,5 @@
+pub mod Seats
+pub mod Stands
+pub mod Fits
+pub mod Changes
+pub mod Posts
