@@ -1,13 +1,14 @@
 -- Straight lines of instructions, cut and joined.
-use Rattle.std.proofs.Common.{◌≡◌, ℕ, zero, suc, ◌+◌, ◌<◌, List, [], ◌∷◌, ◌++◌, length, drop, map, refl, sym, ap, ◌∙◌, subst, arith, length-append}
+use Rattle.std.proofs.Common.{◌≡◌, ℕ, zero, suc, ◌+◌, ◌-◌, ◌<◌, List, [], ◌∷◌, ◌++◌, length, take, drop, map, refl, sym, ap, ◌∙◌, subst, arith, length-append}
+use Rattle.std.proofs.lemmas.List.{take_at}
 use Rattle.std.specs.Prelude.{slice_index_or}
 use Rattle.wasm_form.specs.declared.instr.Instr.{Instr}
 use Rattle.wasm_form.specs.declared.instr.Imm.TheVariants.{I32}
 use Rattle.wasm_form.specs.Small.{SmallInstr, Nop, I32Const, I32Add, Drop, instr_of, end_instr}
-use Rattle.wasm_form.specs.declared.body.Body.{Body}
 use Rattle.wasm_form.specs.Contents.{Contents}
 use Rattle.wasm_form.specs.Form.{module_of}
 use Rattle.wasm_form.specs.Operands.{Executes, ExecutesAll}
+use Rattle.fuel_stepper.specs.Line.{small_instr, first_code, without_end, line_of}
 
 -- the operands after one line are where the next one begins
 pub ExecutesAll-append : (a b : List SmallInstr) (s m t : List ℕ) → ExecutesAll a s m → ExecutesAll b m t → ExecutesAll (a ++ b) s t
@@ -74,11 +75,24 @@ one_line (i ∷ a) (j ∷ b) end e =
     let rest : a ≡ b = one_line a b end (cc) in
     cc
 
--- the code of the first body
-abbrev pub first_code : List Body → List Instr
-first_code [] = []
-first_code (body ∷ bodies) = body.expr.code
-
 -- a module has one list of instructions
 pub one_module : (a b : List SmallInstr) → module_of a ≡ module_of b → a ≡ b
 one_module a b e = one_line a b end_instr (ap (λ (m : Contents). first_code m.bodies) e)
+
+-- an instruction is the one that its code stands for
+small_instr-of : (list : List SmallInstr) → map small_instr (map instr_of list) ≡ list
+small_instr-of [] = refl
+small_instr-of (Nop ∷ list) = ap (λ l. Nop ∷ l) (small_instr-of list)
+small_instr-of (I32Const bits ∷ list) = ap (λ l. I32Const bits ∷ l) (small_instr-of list)
+small_instr-of (I32Add ∷ list) = ap (λ l. I32Add ∷ l) (small_instr-of list)
+small_instr-of (Drop ∷ list) = ap (λ l. Drop ∷ l) (small_instr-of list)
+
+-- what stands before the end
+pub without_end-of : (list : List Instr) (end : Instr) → without_end (list ++ end ∷ []) ≡ list
+without_end-of list end =
+    take_at list (end ∷ []) (length (list ++ end ∷ []) - 1) (omega (arith, length-append list (end ∷ [])))
+
+-- the line of a module of the form is its list
+pub line_is : (m : Contents) (list : List SmallInstr) → m ≡ module_of list → line_of m ≡ list
+line_is m list e =
+    ap line_of e ∙ ap (λ l. map small_instr l) (without_end-of (map instr_of list) end_instr) ∙ small_instr-of list

@@ -3,7 +3,6 @@ use Rattle.std.proofs.Common.{◌≡◌, ◌≢◌, ◌⊎◌, inl, inr, ◌==�
 use Rattle.std.proofs.lemmas.List.{take-append-drop, take_all, length-drop, length-take-le, length-map, drop-drop, drop-map, take-map}
 use Rattle.std.proofs.lemmas.Grind.{common_steps}
 use Rattle.std.proofs.Math.Seq.{take-add}
-use Rattle.wasm_form.specs.Contents.{Contents}
 use Rattle.wasm_form.specs.declared.instr.Instr.{Instr}
 use Rattle.wasm_form.specs.Small.{SmallInstr, instr_of}
 use Rattle.wasm_form.specs.Operands.{ExecutesAll}
@@ -21,27 +20,25 @@ next_line list count s t all =
     ExecutesAll-cut (take count list) (drop count list) s t (subst P (sym (take-append-drop count list)) all)
 
 -- an instance goes on by some instructions that leave these operands
-pub goes_on : (contents : Contents) (values new : List ℕ) (height executed after count : ℕ) (r : IsRunning contents values height executed) →
-    executed + count ≤ length r.list → length r.list ≤ length new → after ≤ height + count →
-    ((m : List ℕ) → ExecutesAll (take count (drop executed r.list)) (stack_of values height) m → stack_of new after ≡ m) →
-    IsRunning contents new after (executed + count)
-goes_on contents values new height executed after count r within room low leads =
-    let cut = next_line (drop executed r.list) count (stack_of values height) [] r.goes_on in
+pub goes_on : (list : List SmallInstr) (values new : List ℕ) (height executed after count : ℕ) → IsRunning list values height executed →
+    executed + count ≤ length list → length list ≤ length new → after ≤ height + count →
+    ((m : List ℕ) → ExecutesAll (take count (drop executed list)) (stack_of values height) m → stack_of new after ≡ m) →
+    IsRunning list new after (executed + count)
+goes_on list values new height executed after count r within room low leads =
+    let cut = next_line (drop executed list) count (stack_of values height) [] r.goes_on in
     let P : List SmallInstr → Type 0 = λ l. ExecutesAll l [] cut.0 in
-    let reached : ExecutesAll (take (executed + count) r.list) [] cut.0 =
-    subst P (sym (take-add executed count r.list))
-    (ExecutesAll-append (take executed r.list) (take count (drop executed r.list)) [] (stack_of values height) cut.0 r.reached cut.1) in
-    let Q : List ℕ → Type 0 = λ m. ExecutesAll (take (executed + count) r.list) [] m in
-    let R : List ℕ → Type 0 = λ m. ExecutesAll (drop (executed + count) r.list) m [] in
+    let reached : ExecutesAll (take (executed + count) list) [] cut.0 =
+    subst P (sym (take-add executed count list))
+    (ExecutesAll-append (take executed list) (take count (drop executed list)) [] (stack_of values height) cut.0 r.reached cut.1) in
+    let Q : List ℕ → Type 0 = λ m. ExecutesAll (take (executed + count) list) [] m in
+    let R : List ℕ → Type 0 = λ m. ExecutesAll (drop (executed + count) list) m [] in
     let S : List SmallInstr → Type 0 = λ l. ExecutesAll l cut.0 [] in
     record {
-      list = r.list;
-      is = r.is;
       within = within;
       low = omega (arith, low, r.low);
       room = room;
       reached = subst Q (sym (leads cut.0 cut.1)) reached;
-      goes_on = subst R (sym (leads cut.0 cut.1)) (subst S (drop-drop count executed r.list) cut.2);
+      goes_on = subst R (sym (leads cut.0 cut.1)) (subst S (drop-drop count executed list) cut.2);
     }
 
 -- what the budget allows of the instructions that are left

@@ -1,13 +1,14 @@
-ghost use Rattle.std.specs.Prelude.{◌≡◌, List, IfOk, map, take, min, length};
+ghost use Rattle.std.specs.Prelude.{◌≡◌, ◌≤◌, List, ◌↔◌, IfOk, IsTrue, take, min, length};
 ghost use Rattle.wasm_form.specs.Form.{IsSmallModule, module_of};
-ghost use Rattle.wasm_form.specs.Small.{SmallInstr, instr_of};
+ghost use Rattle.wasm_form.specs.Small.{SmallInstr};
 ghost use Rattle.fuel_stepper.specs.Progress.{StepsTo, begins};
 
-use crate::Stop;
 use crate::step::execute_all;
+use crate::{SmallModule, Stop};
 use memory_refusal::NoMemory;
 use std::alloc::Global;
 use std::marker::Model;
+use std::sync::Arc;
 use wasm_form::{Instr, Module};
 
 /// A module that is being executed.
@@ -15,13 +16,15 @@ use wasm_form::{Instr, Module};
 /// Contracts see the module, how many of its instructions were executed and its operands.
 #[derive(Drop)]
 pub struct Instance {
-    module: Module,
+    program: Arc<SmallModule>,
     values: Vec<u64>,
     height: usize,
     executed: usize,
 }
 
 impl Model for Instance {
+    ghost use Rattle.std.specs.Arc.{arc_value};
+    ghost use Rattle.wasm_form.specs.Form.{module_of};
     ghost use Rattle.fuel_stepper.specs.Progress.{Progress};
     ghost use Rattle.fuel_stepper.specs.Stack.{stack_of};
     ghost use Rattle.fuel_stepper.specs.Instance.{IsRunning};
@@ -29,12 +32,12 @@ impl Model for Instance {
     ghost Value = { Progress };
 
     ghost view = { λ s. record {
-      module_is = s.«module»;
+      module_is = module_of (arc_value s.program);
       executed = s.executed;
       operands = stack_of s.values.items s.height;
     } };
 
-    ghost invariant = { λ s. IsRunning s.«module» s.values.items s.height s.executed };
+    ghost invariant = { λ s. IsRunning (arc_value s.program) s.values.items s.height s.executed };
 }
 
 impl Instance {
@@ -43,10 +46,18 @@ impl Instance {
         requires small { IsSmallModule «module» }
         ensures { IfOk result (λ instance. instance ≡ begins «module») }
     {
-        let room = module.bodies()[0].expr.code.len();
+        let program = Arc::new(alloc, SmallModule::of(module))?;
+        Instance::begin(alloc, program)
+    }
+
+    /// An instance that begins on the program.
+    pub fn begin(alloc: Global, program: Arc<SmallModule>) -> Result<Instance, NoMemory>
+        ensures { IfOk result (λ instance. instance ≡ begins (module_of program.value)) }
+    {
+        let room = program.instructions().len();
         Ok(Instance {
             values: vec![in alloc; 0; room]?,
-            module,
+            program,
             height: 0,
             executed: 0,
         })
@@ -57,10 +68,11 @@ impl Instance {
     /// `Slice` comes exactly where another instruction is to come. The end of the body is no instruction. Once `Done`
     /// was answered, each further step executes nothing and answers it again.
     pub fn step(&mut self, budget: u64) -> (Stop, u64)
-        ensures { (list : List SmallInstr) → self.old.module_is ≡ module_of list
+        ensures within { result.1 ≤ budget }
+        ensures steps { (list : List SmallInstr) → self.old.module_is ≡ module_of list
             → StepsTo list budget self.old result.0 result.1 self.new }
     {
-        let left = &instructions(&self.module)[self.executed..];
+        let left = &self.program.instructions()[self.executed..];
         let next = first_of(left, budget);
         let count = next.len();
         let stop = if count == left.len() {
@@ -72,15 +84,14 @@ impl Instance {
         self.executed += count;
         (stop, count as u64)
     }
-}
 
-/// The instructions of a small module, without the end of the body.
-fn instructions(small: &Module) -> &[Instr]
-    requires small { (list : List SmallInstr) × (small.now ≡ module_of list) }
-    ensures { (list : List SmallInstr) → small.now ≡ module_of list → result.now ≡ map instr_of list }
-{
-    let code = small.bodies()[0].expr.code.as_slice();
-    &code[..code.len() - 1]
+    /// No instruction is left.
+    pub fn is_done(&self) -> bool
+        ensures { (list : List SmallInstr) → self.now.module_is ≡ module_of list
+            → IsTrue result ↔ (self.now.executed ≡ length list) }
+    {
+        self.executed == self.program.instructions().len()
+    }
 }
 
 /// The first instructions, as many as the budget allows.

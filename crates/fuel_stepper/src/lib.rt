@@ -5,13 +5,17 @@
 //! are then those that the definition gives after so many instructions, and it is done exactly at the list's end.
 #![tactic(auto)]
 
+mod engine;
 mod instance;
 mod numeric;
 mod operand_stack;
+mod small_module;
 mod step;
 mod stop;
 
+pub use engine::SmallInstance;
 pub use instance::Instance;
+pub use small_module::SmallModule;
 pub use stop::Stop;
 
 #[cfg(test)]

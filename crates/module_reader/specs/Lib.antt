@@ -1,1 +1,4 @@
 pub mod Line
+pub mod Limits
+pub mod Kinds
+pub mod Order

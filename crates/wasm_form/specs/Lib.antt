@@ -9,3 +9,8 @@ pub mod Trees
 pub mod Sections
 pub mod Modules
 pub mod Matching
+pub mod Context
+pub mod Typing
+pub mod Validity
+pub mod Profile
+pub mod Verdict

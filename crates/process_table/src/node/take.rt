@@ -95,9 +95,8 @@ impl<E: Engine, O: Outside> Node<E, O> {
         ensures recorded { (world_of self.old).over ≡ false → RecordsEntry self.old.book self.new.book (Starve worker) }
         ensures run { IsRun (setting_of E.begin E.at self.new) self.new.book }
     {
-        if self.over {
-            return;
+        if !self.over {
+            self.end_all(Entry::Starve { worker });
         }
-        self.end_all(Entry::Starve { worker });
     }
 }

@@ -1,0 +1,23 @@
+use Rattle.std.proofs.Common.{◌++◌, ℕ, List, Some, ap, arith, ◌∙◌}
+use Rattle.std.proofs.lemmas.Slice.Eq.{strip_prefix_is}
+use Rattle.std.proofs.lemmas.Bool.Decides.{Decides-eqb}
+use Rattle.std.proofs.lemmas.Result.{err_from_is_err_and}
+use Rattle.body_reader.proofs.Pieces.{refused_with}
+use Rattle.module_reader.proofs.SectionsSeen.{whole_module, unequal, in_module}
+use Rattle.module_reader.proofs.module.read_module.Goals as goal
+
+pub returns : goal.returns
+returns c =
+    let whole = strip_prefix_is Decides-eqb c.args.bytes.now c.as_slice.result.now (Some c.in-Some.sections) c.in-Some.ensures.cases in
+    whole_module _ _ _ (whole ∙ ap (λ (l : List ℕ). l ++ c.in-Some.sections.now) c.as_slice.ensures) (omega (arith, c.len.ensures, c.len-2.ensures, c.if-len.false)) c.in_ok-parts.ensures
+
+pub returns-then-len : goal.returns-then-len
+returns-then-len c m =
+    let whole = strip_prefix_is Decides-eqb c.args.bytes.now c.as_slice.result.now (Some c.in-Some.sections) c.in-Some.ensures.cases in
+    unequal _ _ _ (whole ∙ ap (λ (l : List ℕ). l ++ c.in-Some.sections.now) c.as_slice.ensures) (λ e. omega (arith, e, c.len.ensures, c.len-2.ensures, c.if-len.true)) c.in_ok-parts.ensures.1
+
+pub returns-in_err-parts : goal.returns-in_err-parts
+returns-in_err-parts c =
+    let p = err_from_is_err_and c.from_residual.result c.from_residual.ensures.1 in
+    let whole = strip_prefix_is Decides-eqb c.args.bytes.now c.as_slice.result.now (Some c.in-Some.sections) c.in-Some.ensures.cases in
+    refused_with _ _ _ _ _ p.1 p.2 (λ m v h. c.in_err-parts.ensures m v (in_module _ _ v (whole ∙ ap (λ (l : List ℕ). l ++ c.in-Some.sections.now) c.as_slice.ensures) h))
