@@ -1,8 +1,8 @@
 -- Lemmas that prove the laws which `Engine` asks of a small module: a law's proof cites files of specs/ alone.
-use Rattle.std.proofs.Common.{◌≡◌, ◌≢◌, ◌≤◌, ℕ, ◌+◌, ◌&&◌, IsSome, List, [], ◌∷◌, length, Option, Some, None, true, false, Bool, cond, nat_eq, nat_le, arith, refl, sym, ◌∙◌}
+use Rattle.std.proofs.Common.{◌≡◌, ◌≢◌, ◌≤◌, ℕ, ◌+◌, ◌&&◌, IsSome, List, [], ◌∷◌, length, Option, Some, None, true, false, Bool, cond, nat_eq, nat_le, arith, refl}
 use Rattle.std.proofs.lemmas.Bool.Decides.{nat_tests}
 use Rattle.wasm_form.specs.Small.{SmallInstr}
-use Rattle.host_port.specs.Standing.{State, Standing, Ready, Finished, Asking, Phase, Running, Owing, state_of, MayStep}
+use Rattle.host_port.specs.Standing.{State, Standing, Ready, Finished, Asking, Owing, state_of, MayStep}
 use Rattle.host_port.specs.TypedValue.{TypedValue}
 use Rattle.host_port.specs.declared.ask.Ask.{Ask}
 use Rattle.host_port.specs.declared.call.Call.{Call}

@@ -2,7 +2,6 @@
 use Rattle.std.specs.Prelude.{◌≡◌, ℕ, ◌+◌, ◌≤◌, ◌&&◌, List, [], ◌∷◌, length, Option, Some, None, Bool, true, false, cond, nat_eq, nat_le, codes}
 use Rattle.wasm_form.specs.Form.{module_of}
 use Rattle.wasm_form.specs.Small.{SmallInstr}
-use Rattle.host_port.specs.Allowance.{Allowance}
 use Rattle.host_port.specs.HostTable.{same_text}
 use Rattle.host_port.specs.Standing.{Standing, State, Ready, Finished, Phase, Running, Over}
 use Rattle.host_port.specs.TypedValue.{TypedValue}

@@ -7,6 +7,9 @@ use std::sync::Arc;
 const EXPORTED_NAME: &[u8] = b"_start";
 
 /// An engine that executes a small module. It has no memory and asks nothing.
+///
+/// A start is refused with `NoExport` exactly where the entry is another name than `_start`, then with `BadParams`
+/// exactly where there is a parameter, and else for want of memory alone.
 #[derive(Drop)]
 pub struct SmallInstance {
     /// The line of instructions, and how far it was executed.

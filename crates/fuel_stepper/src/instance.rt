@@ -41,7 +41,8 @@ impl Model for Instance {
 }
 
 impl Instance {
-    /// An instance that begins on the module, which is one that `read_small` gives.
+    /// An instance that begins on the module, which is one that `read_small` gives. It is refused for want of memory
+    /// alone, and the module is then gone.
     pub fn of(alloc: Global, module: Module) -> Result<Instance, NoMemory>
         requires small { IsSmallModule «module» }
         ensures { IfOk result (λ instance. instance ≡ begins «module») }
@@ -50,7 +51,7 @@ impl Instance {
         Instance::begin(alloc, program)
     }
 
-    /// An instance that begins on the program.
+    /// An instance that begins on the program. It is refused for want of memory alone.
     pub fn begin(alloc: Global, program: Arc<SmallModule>) -> Result<Instance, NoMemory>
         ensures { IfOk result (λ instance. instance ≡ begins (module_of program.value)) }
     {

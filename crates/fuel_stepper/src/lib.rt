@@ -1,8 +1,9 @@
 //! Executes the straight line of instructions of a small module, some instructions at a time, and counts them.
 //!
-//! An [`Instance`] is seen as its module, the number of instructions executed so far and its operands. The theorem is
-//! the contract of [`Instance::step`]: it executes as many instructions as its budget and the list allow, its operands
-//! are then those that the definition gives after so many instructions, and it is done exactly at the list's end.
+//! A [`SmallModule`] is seen as the list of its instructions, and an [`Instance`] as its module, the number of
+//! instructions executed so far and its operands. The theorem is that [`SmallInstance`] is an `Engine` of `host_port`:
+//! it starts exactly by the name `_start` without parameters, executes one instruction after another while budget and
+//! fuel last, and is done exactly at the list's end. Its operands are those of the contract of [`Instance::step`].
 #![tactic(auto)]
 
 mod engine;
