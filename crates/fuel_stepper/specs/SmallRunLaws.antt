@@ -60,9 +60,10 @@ pub asks_nothing : (list : List SmallInstr) (start : Start) (calls : List Call) 
 asks_nothing list start calls n ask = never_asking (is_small_run list start calls n) (nat_eq n (length list)) ask
 
 -- no reply is owed
-pub owes_nothing : (over : Bool) (ask : Ask) → phase_at over ≢ Owing ask
-owes_nothing true ask e = absurd (cc)
-owes_nothing false ask e = absurd (cc)
+pub owes_nothing : (over : Bool) (owed : Option Ask) (ask : Ask) → owed ≡ None → phase_at over owed ≢ Owing ask
+owes_nothing true owed ask none e = absurd (cc)
+owes_nothing false None ask none e = absurd (cc)
+owes_nothing false (Some other) ask none e = absurd (cc)
 
 either_may_step : (ended : Bool) → MayStep (Some (cond ended Finished Ready))
 either_may_step true = tt
@@ -79,7 +80,7 @@ at-run list start calls n begun uncalled within fueled =
 
 -- what follows where an engine's numbers show a run
 module _ (list : List SmallInstr) (start : Start) (calls : List Call) (fuel : ℕ) (line : Progress) (fuel_left : ℕ)
-    (follows : Follows list start calls fuel line fuel_left) where
+    (owed : Option Ask) (follows : Follows list start calls fuel line fuel_left owed) where
   -- the run stands where the numbers say
   pub at-follows : small_at list start calls fuel ≡ Some (record { state = line_state list fuel; memory = [] })
   at-follows =

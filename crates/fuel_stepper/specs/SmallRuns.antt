@@ -3,8 +3,9 @@ use Rattle.std.specs.Prelude.{◌≡◌, ℕ, ◌+◌, ◌≤◌, ◌&&◌, List
 use Rattle.wasm_form.specs.Form.{module_of}
 use Rattle.wasm_form.specs.Small.{SmallInstr}
 use Rattle.host_port.specs.HostTable.{same_text}
-use Rattle.host_port.specs.Standing.{Standing, State, Ready, Finished, Phase, Running, Over}
+use Rattle.host_port.specs.Standing.{Standing, State, Ready, Finished, Phase, Running, Owing, Over}
 use Rattle.host_port.specs.TypedValue.{TypedValue}
+use Rattle.host_port.specs.declared.ask.Ask.{Ask}
 use Rattle.host_port.specs.declared.call.Call.{Call}
 use Rattle.host_port.specs.declared.start.Start.{Start}
 use Rattle.host_port.specs.declared.start.StartRefusal.{StartRefusal}
@@ -51,16 +52,19 @@ small_at list start calls n =
     cond (is_small_run list start calls n) (Some (record { state = line_state list n; memory = [] })) None
 
 -- The engine's own numbers show the run with these calls and this fuel: the line is the module's, so many of its
--- instructions were executed, and so much fuel is left.
+-- instructions were executed, so much fuel is left, and no ask is owed.
 pub record Follows (list : List SmallInstr) (start : Start) (calls : List Call) (fuel : ℕ)
-    (line : Progress) (fuel_left : ℕ) : Type 0 where
+    (line : Progress) (fuel_left : ℕ) (owed : Option Ask) : Type 0 where
   pub module_is : line.module_is ≡ module_of list
   pub starts : small_begin start ≡ None
   pub uncalled : calls ≡ []
   pub executed : line.executed ≡ fuel
   pub within : fuel ≤ length list
   pub fuel_kept : fuel + fuel_left ≡ start.limits.fuel
+  pub unasked : owed ≡ None
 
--- what the engine may be told next: it never owes a reply
-abbrev pub phase_at : (over : Bool) → Phase
-phase_at over = cond over Over Running
+-- what the engine may be told next, by whether its life is over and which ask is owed
+abbrev pub phase_at : (over : Bool) → (owed : Option Ask) → Phase
+phase_at true owed = Over
+phase_at false None = Running
+phase_at false (Some ask) = Owing ask

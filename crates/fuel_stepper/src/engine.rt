@@ -1,5 +1,5 @@
 use crate::{Instance, SmallModule, Stop as LineStop};
-use host_port::{Engine, Reply, Spent, Start, StartRefusal, Stop};
+use host_port::{Ask, Engine, Reply, Spent, Start, StartRefusal, Stop};
 use std::alloc::Global;
 use std::sync::Arc;
 
@@ -18,6 +18,8 @@ pub struct SmallInstance {
     fuel_left: u64,
     /// A step has answered the end of the life.
     over: bool,
+    /// The ask that is owed. A small module asks nothing, so no run has one.
+    owed: Option<Ask>,
 }
 
 impl Engine for SmallInstance {
@@ -34,9 +36,9 @@ impl Engine for SmallInstance {
     ghost may_ask = { λ _ _. ⊥ };
 
     ghost stands = { λ engine list start calls fuel.
-        Follows list start calls fuel engine.line engine.fuel_left };
+        Follows list start calls fuel engine.line engine.fuel_left engine.owed };
 
-    ghost phase = { λ engine. phase_at engine.over };
+    ghost phase = { λ engine. phase_at engine.over engine.owed };
 
     ghost memory = { λ _. [] };
 
@@ -61,6 +63,7 @@ impl Engine for SmallInstance {
             line,
             fuel_left: start.limits.fuel(),
             over: false,
+            owed: None,
         })
     }
 
@@ -76,7 +79,9 @@ impl Engine for SmallInstance {
         (stop, executed)
     }
 
-    fn answer(&mut self, _reply: &Reply) {}
+    fn answer(&mut self, _reply: &Reply) {
+        self.owed = None;
+    }
 
     fn read(&self, addr: u32, len: u32) -> Option<&[u8]> {
         if addr == 0 && len == 0 {
@@ -110,11 +115,11 @@ impl Engine for SmallInstance {
     ghost asks_what_it_may = { λ list start calls fuel ask. run_laws.asks_nothing list start calls fuel ask };
 
     ghost shows_memory = { λ engine list start calls fuel stands.
-        run_laws.shows_memory list start calls fuel engine.line engine.fuel_left stands };
+        run_laws.shows_memory list start calls fuel engine.line engine.fuel_left engine.owed stands };
 
     ghost owes_its_ask = { λ engine list start calls fuel ask stands phase.
-        absurd (run_laws.owes_nothing engine.over ask phase) };
+        absurd (run_laws.owes_nothing engine.over engine.owed ask stands.unasked phase) };
 
     ghost running_may_step = { λ engine list start calls fuel stands phase.
-        run_laws.may_step list start calls fuel engine.line engine.fuel_left stands };
+        run_laws.may_step list start calls fuel engine.line engine.fuel_left engine.owed stands };
 }
