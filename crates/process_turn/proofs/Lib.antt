@@ -1,0 +1,5 @@
+pub mod Requests
+pub mod Turns
+pub mod Asked
+pub mod Bounds
+pub mod Given

@@ -1,0 +1,101 @@
+use Rattle.std.specs.Prelude.{◌≡◌, ◌≢◌, ℕ, ◌+◌, ◌-◌, ◌≤◌, List, ◌++◌, length, slice_get, Option, Some, IsSome, false}
+use Rattle.host_port.specs.declared.call.Call.{Call}
+use Rattle.host_port.specs.declared.start.Start.{Start}
+use Rattle.host_port.specs.declared.start.StartRefusal.{StartRefusal}
+use Rattle.host_port.specs.HostTable.{row_of, receive}
+use Rattle.host_port.specs.Standing.{Standing, Phase, Running}
+use Rattle.host_port.specs.Turn.{GoesOn, most_instructions, most_answers}
+use Rattle.host_port.specs.declared.stop.Stop.{Stop}
+use Rattle.host_port.specs.declared.stop.Stop.TheVariants as stop
+use Rattle.journal.specs.declared.entry.Side.{Side}
+use Rattle.journal.specs.declared.entry.Side.TheVariants as SideIs
+use Rattle.journal.specs.declared.halt.Halt.{Halt}
+use Rattle.journal.specs.declared.halt.Halt.TheVariants as HaltIs
+use Rattle.journal.specs.Allowed.{Terms}
+use Rattle.journal.specs.World.{World, Process, Out}
+use Rattle.journal.specs.Judge.{Fit, Faulty, judge, is_local, local, AreLocal, part_after}
+use Rattle.journal.specs.Lives.{IsTurnOf}
+use Rattle.world_laws.specs.Fits.{PhaseFits, TurnFits}
+use Rattle.world_laws.specs.Seats.{Meaning, Seat, IsSeatOf}
+
+-- What a turn brings back.
+
+-- each call that a program may ask has a row in the host table
+abbrev pub HasRows : {P : Type 0} → (P → ℕ → Type 0) → P → Type 0
+HasRows may_ask program = (call : ℕ) → may_ask program call → IsSome (row_of call)
+
+-- the engine of a seat may be told what is expected, and stands in a run of the seat's start with the seat's fuel
+pub record IsUnderWay {E P : Type 0} (engines : Meaning E P) (expected : Phase) (seat : Seat E) : Type 0 where
+  pub program : P
+  pub calls : List Call
+  pub stands : engines.stands seat.engine program seat.start calls seat.fuel
+  pub phase : engines.phase seat.engine ≡ expected
+
+-- the seat stands where this process does, by this program
+pub record IsAt {E P : Type 0} (engines : Meaning E P) (program : P) (p : Process) (seat : Seat E) : Type 0 where
+  pub stands : engines.stands seat.engine program p.start p.calls p.fuel
+  pub start : seat.start ≡ p.start
+  pub scratch : seat.scratch ≡ p.part.scratch
+  pub fuel : seat.fuel ≡ p.fuel
+
+-- the seat has what is left of the process after these local calls
+pub record HasGone {E P : Type 0} (engines : Meaning E P) (program : P) (p : Process) (seat : Seat E) (further : List Call) : Type 0 where
+  pub stands : engines.stands seat.engine program p.start (p.calls ++ further) seat.fuel
+  pub start : seat.start ≡ p.start
+  pub scratch : seat.scratch ≡ (part_after p.start p.part further).scratch
+  pub grown : p.fuel ≤ seat.fuel
+  pub executed : seat.fuel ≤ p.fuel + most_instructions
+  pub local : AreLocal p.start p.part further
+
+-- the turn of the process has gone on by these local calls, and is not at its end
+pub record GoesTo {E P : Type 0} (engines : Meaning E P) (at : P → Start → List Call → ℕ → Option Standing) (program : P) (p : Process) (seat : Seat E) (further : List Call) : Type 0 where
+  pub gone : HasGone engines program p seat further
+  pub goes : GoesOn (at program p.start) (local p.start) p.part p.calls 0 p.fuel further seat.fuel (part_after p.start p.part further)
+
+-- a turn asks for a call that isn't local and is judged fit, or ends by the fault that its request is judged
+abbrev pub IsJudged : Process → List Call → Halt → Type 0
+IsJudged p calls HaltIs.Slice = Unit {0}
+IsJudged p calls (HaltIs.Asks request) = (is_local request.ask.call ≡ false) × (judge p.start (part_after p.start p.part calls) request ≡ Fit)
+IsJudged p calls HaltIs.Done = Unit {0}
+IsJudged p calls (HaltIs.Trap trap) = Unit {0}
+IsJudged p calls (HaltIs.Spent spent) = Unit {0}
+IsJudged p calls (HaltIs.Host fault request) = judge p.start (part_after p.start p.part calls) request ≡ Faulty fault
+IsJudged p calls HaltIs.NoMemory = Unit {0}
+
+-- the turn of the process has ended so
+pub record HasEnded {E P : Type 0} (engines : Meaning E P) (at : P → Start → List Call → ℕ → Option Standing) (program : P) (p : Process) (seat : Seat E) (calls : List Call) (halt : Halt) : Type 0 where
+  pub gone : HasGone engines program p seat calls
+  pub answered : length calls ≤ most_answers
+  pub turn : IsTurnOf (at program p.start) p calls (seat.fuel - p.fuel) halt
+  pub judged : IsJudged p calls halt
+  pub phase : PhaseFits (engines.phase seat.engine) (engines.memory seat.engine) halt
+
+-- the halt of a turn whose last step stopped at no ask
+abbrev pub halt_after : Stop → Halt
+halt_after stop.Slice = HaltIs.Slice
+halt_after (stop.Asks ask) = HaltIs.NoMemory
+halt_after stop.Done = HaltIs.Done
+halt_after (stop.Trap trap) = HaltIs.Trap trap
+halt_after (stop.Spent spent) = HaltIs.Spent spent
+
+-- the clock was asked exactly for a receive
+abbrev pub IsSideOf : Halt → Side → Type 0
+IsSideOf HaltIs.Slice side = side ≡ SideIs.Nothing
+IsSideOf (HaltIs.Asks request) SideIs.Nothing = request.ask.call ≢ receive.call
+IsSideOf (HaltIs.Asks request) (SideIs.Clock now) = request.ask.call ≡ receive.call
+IsSideOf (HaltIs.Asks request) SideIs.NoMemory = ⊥
+IsSideOf HaltIs.Done side = side ≡ SideIs.Nothing
+IsSideOf (HaltIs.Trap trap) side = side ≡ SideIs.Nothing
+IsSideOf (HaltIs.Spent spent) side = side ≡ SideIs.Nothing
+IsSideOf (HaltIs.Host fault request) side = side ≡ SideIs.Nothing
+IsSideOf HaltIs.NoMemory side = side ≡ SideIs.Nothing
+
+-- What is brought back of the process of the seat `before` may be given in every world in which the worker has that process
+-- as it was: the program that its start names is there, and asks only calls that have a row.
+abbrev pub MayBeGiven : {E P : Type 0} → Meaning E P → (P → Start → Option StartRefusal) → (P → Start → List Call → ℕ → Option Standing) → (P → ℕ → Type 0) → (before after : Seat E) → List Call → Halt → Side → Type 0
+MayBeGiven {P = P} engines begin at may_ask before after calls halt side =
+    (programs : List P) (terms : Terms) (w : World) (worker : ℕ) (program : P) →
+    (w.process before.start.pid).stage ≡ Out worker →
+    IsSeatOf engines programs (w.process before.start.pid) Running before →
+    slice_get programs before.start.«module» ≡ Some program → HasRows may_ask program →
+    TurnFits engines (record { programs = programs; begin = begin; at = at; terms = terms }) w worker before.start.pid after calls halt side
