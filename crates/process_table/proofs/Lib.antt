@@ -1,8 +1,10 @@
 pub mod WantedTags
 pub mod Mailboxes
 pub mod Holding
+pub mod Starts
 pub mod Taking
 pub mod EndingAll
 pub mod Beginning
 pub mod Giving
 pub mod GivingRequests
+pub mod Scripts

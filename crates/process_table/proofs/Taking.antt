@@ -21,7 +21,9 @@ use Rattle.process_table.specs.declared.message.Letter.{Letter}
 use Rattle.process_table.specs.Seen.{Seen, seen, setting_of}
 use Rattle.process_table.specs.Holds.{Keeps, held_of, seat_of, seat_in}
 use Rattle.process_table.specs.Takes.{TakesProcess, TakesOver, RecordsEntry, away_in}
+use Rattle.process_table.specs.Rows.{AllHaveRows}
 use Rattle.process_table.proofs.Holding.{changes-home, keeps-parts}
+use Rattle.process_table.proofs.Starts.{its-program}
 
 -- The front of the ready list is handed out.
 
@@ -68,19 +70,22 @@ node-take {engines = engines} begin at programs old new live idle homes homes_af
     let fewer : length rest + (out + 1) ≤ place_after = let f = ap (λ (xs : List ℕ). length xs) front in let p = keeps.places in omega (arith, same_place) in
     keeps-parts begin at programs old new live idle is hn mn place_after adds.births stands keeps.homes_are keeps.mailboxes_are fewer
 
-pub shows-take : {E O P S L : Type 0} (engines : Meaning E P) (begin : P → Start → Option StartRefusal) (at : P → Start → List Call → ℕ → Option Standing) (programs : List P) (old new : Book) (live idle : ℕ) (homes : List (Option (Proc E O P S L))) (mail : List (List Letter)) (ready rest : List ℕ) (over : Bool) (sends out pid worker : ℕ) (place : Option (Proc E O P S L)) (proc : Proc E O P S L)
+pub shows-take : {E O P S L : Type 0} (engines : Meaning E P) (may_ask : P → ℕ → Type 0) (begin : P → Start → Option StartRefusal) (at : P → Start → List Call → ℕ → Option Standing) (programs : List P) (old new : Book) (live idle : ℕ) (homes : List (Option (Proc E O P S L))) (mail : List (List Letter)) (ready rest : List ℕ) (over : Bool) (sends out pid worker : ℕ) (place : Option (Proc E O P S L)) (proc : Proc E O P S L)
     → StandsFor engines (setting_of begin at (seen programs old live idle)) old (told old) (held_of homes ready over mail sends out)
-    → (told old).over ≡ false
+    → AllHaveRows may_ask programs → (told old).over ≡ false
     → ready ≡ pid ∷ rest → place ≡ get_or homes pid place → place ≡ Some proc
     → AddsEntry old new (Take worker pid)
-    → TakesProcess engines (seen programs old live idle) (seen programs new live idle) worker (seat_of proc)
-shows-take engines begin at programs old new live idle homes mail ready rest over sends out pid worker place proc stands going front there is adds =
+    → TakesProcess engines may_ask (seen programs old live idle) (seen programs new live idle) worker (seat_of proc)
+shows-take engines may_ask begin at programs old new live idle homes mail ready rest over sends out pid worker place proc stands rows going front there is adds =
     let w : World = told old in
     let home = front-home old homes mail ready over sends out pid rest stands front in
     let found : place ≡ Some home.0 = there ∙ get_or_from_slice_get homes pid (Some home.0) place home.1 in
     let same : home.0 ≡ proc = let e : Some home.0 ≡ Some proc = sym found ∙ is in cc in
     let first = front-first old (held_of homes ready over mail sends out) pid rest stands front in
     let numbered : proc.start.pid ≡ pid = ap (λ (x : Proc _ _ _ _ _). x.start.pid) (sym same) ∙ ap (λ (s : Start). s.pid) home.2.start ∙ first.1 in
+    let started : proc.start ≡ (w.process pid).start = ap (λ (x : Proc _ _ _ _ _). x.start) (sym same) ∙ home.2.start in
+    let there = its-program (setting_of begin at (seen programs old live idle)) old pid stands.run in
+    let named : slice_get programs proc.start.«module» ≡ Some there.0 = ap (λ (s : Start). slice_get programs s.«module») started ∙ there.1 in
     let shown = shown-taken engines programs old new pid worker (seat_of home.0) home.2 (records-alone old new (Take worker pid) adds) in
     record {
       going = going;
@@ -88,6 +93,9 @@ shows-take engines begin at programs old new live idle homes mail ready rest ove
       recorded = subst (λ (k : ℕ). Records old new (Take worker k) []) (sym numbered) (records-alone old new (Take worker pid) adds);
       seated = subst (λ (k : ℕ). IsSeatOf engines programs ((told new).process k) Running (seat_of proc)) (sym numbered) (subst (λ (x : Proc _ _ _ _ _). IsSeatOf engines programs ((told new).process pid) Running (seat_of x)) same shown.0);
       out = subst (λ (k : ℕ). ((told new).process k).stage ≡ Out worker) (sym numbered) shown.1;
+      program = there.0;
+      found = named;
+      rows = rows proc.start.«module» there.0 named;
     }
 
 pub no-home : {E O P S L : Type 0} (engines : Meaning E P) (setting : Setting P) (book : Book) (homes : List (Option (Proc E O P S L))) (mail : List (List Letter)) (ready rest : List ℕ) (over : Bool) (sends out pid : ℕ) (place : Option (Proc E O P S L)) → StandsFor engines setting book (told book) (held_of homes ready over mail sends out) → ready ≡ pid ∷ rest → place ≡ get_or homes pid place → place ≡ None → ⊥
@@ -107,7 +115,7 @@ takes-over old new held worker stands going empty none over recorded = record {
   over = over;
   was_over = λ o. true_is_not_false (sym o ∙ stands.over ∙ going);
   was_going = λ _. record {
-    idle = stands.ready.same ∙ nil-is held.ready empty;
+    none_ready = stands.ready.same ∙ nil-is held.ready empty;
     away = let o = stands.out in omega arith;
     recorded = recorded;
   };

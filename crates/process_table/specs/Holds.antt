@@ -8,6 +8,7 @@ use Rattle.world_laws.specs.Seats.{Meaning, Seat}
 use Rattle.world_laws.specs.Stands.{Held, StandsFor}
 use Rattle.process_table.specs.declared.message.Letter.{Letter}
 use Rattle.process_table.specs.declared.process.Proc.{Proc}
+use Rattle.process_table.specs.Rows.{AllHaveRows}
 
 -- What a node holds.
 
@@ -48,3 +49,8 @@ pub record Keeps {E P : Type 0} (engines : Meaning E P) (setting : Setting P) (b
   pub homes_are : homes ≡ 2
   pub mailboxes_are : mailboxes ≡ 2
   pub places : length held.ready + held.out ≤ place
+
+-- so keeps a node whose programs ask only calls that have a row
+pub record NodeKeeps {E P : Type 0} (engines : Meaning E P) (may_ask : P → ℕ → Type 0) (setting : Setting P) (book : Book) (held : Held E) (homes mailboxes place : ℕ) : Type 0 where
+  pub keeps : Keeps engines setting book held homes mailboxes place
+  pub rows : AllHaveRows may_ask setting.programs

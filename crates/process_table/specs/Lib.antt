@@ -1,4 +1,5 @@
 pub mod Seen
+pub mod Rows
 pub mod Holds
 pub mod Picked
 pub mod Takes

@@ -18,6 +18,7 @@ use Rattle.world_laws.specs.Changes.{Records}
 use Rattle.process_table.specs.declared.process.Taken.{Taken}
 use Rattle.process_table.specs.declared.process.Taken.TheVariants as TakenIs
 use Rattle.process_table.specs.Seen.{Seen, world_of}
+use Rattle.process_table.specs.Rows.{HasRows}
 use Rattle.process_table.specs.Holds.{seat_of}
 
 -- What the calls of a node answer and record.
@@ -63,24 +64,28 @@ pub record AddsLast {E P : Type 0} (engines : Meaning E P) (pid : ℕ) (seat : O
   pub births : new.births ≡ old.births
   pub entry_room : new.entry_room ≡ old.entry_room
 
--- the process at the front of the ready list is handed out, as the journal leaves it, and a Take is recorded
-pub record TakesProcess {E P : Type 0} (engines : Meaning E P) (old new : Seen P) (worker : ℕ) (seat : Seat E) : Type 0 where
+-- The process at the front of the ready list is handed out, as the journal leaves it, and a Take is recorded. The program that its
+-- start names is there, and asks only calls that have a row.
+pub record TakesProcess {E P : Type 0} (engines : Meaning E P) (may_ask : P → ℕ → Type 0) (old new : Seen P) (worker : ℕ) (seat : Seat E) : Type 0 where
   pub going : (world_of old).over ≡ false
   pub front : slice_get (world_of old).ready 0 ≡ Some seat.start.pid
   pub recorded : Records old.book new.book (EntryIs.Take worker seat.start.pid) []
   pub seated : IsSeatOf engines old.programs ((world_of new).process seat.start.pid) Running seat
   pub out : ((world_of new).process seat.start.pid).stage ≡ Out worker
+  pub program : P
+  pub found : slice_get old.programs seat.start.«module» ≡ Some program
+  pub rows : HasRows may_ask program
 
 -- nothing is ready, but a worker has a process, so the run isn't stuck; nothing is recorded
 pub record TakesNothing {P : Type 0} (old new : Seen P) : Type 0 where
   pub going : (world_of old).over ≡ false
-  pub idle : (world_of old).ready ≡ []
+  pub none_ready : (world_of old).ready ≡ []
   pub away : 0 < away_in (world_of old)
   pub same : new.book ≡ old.book
 
 -- the run was stuck, and a Stall is recorded
 pub record Stalls {P : Type 0} (old new : Seen P) (worker : ℕ) : Type 0 where
-  pub idle : (world_of old).ready ≡ []
+  pub none_ready : (world_of old).ready ≡ []
   pub away : away_in (world_of old) ≡ 0
   pub recorded : RecordsEntry old.book new.book (EntryIs.Stall worker)
 
@@ -91,10 +96,10 @@ pub record TakesOver {P : Type 0} (old new : Seen P) (worker : ℕ) : Type 0 whe
   pub was_going : (world_of old).over ≡ false → Stalls old new worker
 
 -- what a take answers
-abbrev pub IsTaken : {E O P S L : Type 0} → Meaning E P → Seen P → Seen P → ℕ → Taken E O P S L → Type 0
-IsTaken engines old new worker (TakenIs.Proc proc) = TakesProcess engines old new worker (seat_of proc)
-IsTaken engines old new worker TakenIs.Nothing = TakesNothing old new
-IsTaken engines old new worker TakenIs.Over = TakesOver old new worker
+abbrev pub IsTaken : {E O P S L : Type 0} → Meaning E P → (P → ℕ → Type 0) → Seen P → Seen P → ℕ → Taken E O P S L → Type 0
+IsTaken engines may_ask old new worker (TakenIs.Proc proc) = TakesProcess engines may_ask old new worker (seat_of proc)
+IsTaken engines may_ask old new worker TakenIs.Nothing = TakesNothing old new
+IsTaken engines may_ask old new worker TakenIs.Over = TakesOver old new worker
 
 -- exactly a Give was recorded, beside what came with the turn, or beside a refusal of memory
 abbrev pub RecordsGive : Book → Book → (worker pid : ℕ) → List Call → (fuel : ℕ) → Halt → Side → Type 0

@@ -5,6 +5,7 @@ ghost use Rattle.host_port.specs.declared.start.StartRefusal.TheVariants.{NoMemo
 ghost use Rattle.journal.specs.Book.{KeepsAll};
 ghost use Rattle.journal.specs.Lives.{IsRun};
 ghost use Rattle.process_table.specs.Seen.{setting_of, world_of};
+ghost use Rattle.process_table.specs.Rows.{AllHaveRows};
 ghost use Rattle.process_table.specs.Takes.{SameTerms, IsReserved, BeginsWith, away_in};
 
 mod give;
@@ -49,14 +50,14 @@ impl<E: Engine, O: Outside> Model for Node<E, O> {
     ghost use Rattle.std.specs.VecDeque.{deque_capacity};
     ghost use Rattle.world_laws.specs.Seats.{meaning};
     ghost use Rattle.process_table.specs.Seen.{Seen, seen, setting_of};
-    ghost use Rattle.process_table.specs.Holds.{Keeps, held_of};
+    ghost use Rattle.process_table.specs.Holds.{NodeKeeps, held_of};
 
     ghost Value = { Seen E.Program };
 
     ghost view = { λ a. seen (map arc_value a.programs.items) a.journal a.live a.idle };
 
     ghost invariant = { λ a.
-        Keeps (meaning E.stands E.phase E.memory)
+        NodeKeeps (meaning E.stands E.phase E.memory) E.may_ask
         (setting_of E.begin E.at (seen (map arc_value a.programs.items) a.journal a.live a.idle)) a.journal
         (held_of a.homes.items a.ready.items a.over (map (λ box. box.items) a.mail.items) a.sends a.out)
         (vec_len a.homes) (vec_len a.mail) (deque_capacity a.ready) };
@@ -126,6 +127,7 @@ impl<E: Engine, O: Outside> Node<E, O> {
     ) -> Result<Node<E, O>, StartRefusal>
         requires program { start.module < length programs.items }
         requires first { start.pid ≡ 1 }
+        requires rows { AllHaveRows E.may_ask (map arc_value programs.items) }
         ensures programs { IfOk result (λ node. node.programs ≡ map arc_value programs.items) }
         ensures live { IfOk result (λ node. node.live ≡ live) }
         ensures idle { IfOk result (λ node. node.idle ≡ idle) }

@@ -3,3 +3,5 @@ pub mod Turns
 pub mod Asked
 pub mod Bounds
 pub mod Given
+pub mod Dooms
+pub mod Rounds

@@ -1,8 +1,8 @@
-use Rattle.std.specs.Prelude.{◌≡◌, ◌≢◌, ℕ, ◌+◌, ◌-◌, ◌≤◌, List, ◌++◌, length, slice_get, Option, Some, IsSome, false}
+use Rattle.std.specs.Prelude.{◌≡◌, ◌≢◌, ℕ, ◌+◌, ◌-◌, ◌≤◌, List, ◌++◌, length, slice_get, Option, Some, IfSome, false}
 use Rattle.host_port.specs.declared.call.Call.{Call}
 use Rattle.host_port.specs.declared.start.Start.{Start}
 use Rattle.host_port.specs.declared.start.StartRefusal.{StartRefusal}
-use Rattle.host_port.specs.HostTable.{row_of, receive}
+use Rattle.host_port.specs.HostTable.{receive}
 use Rattle.host_port.specs.Standing.{Standing, Phase, Running}
 use Rattle.host_port.specs.Turn.{GoesOn, most_instructions, most_answers}
 use Rattle.host_port.specs.declared.stop.Stop.{Stop}
@@ -11,18 +11,15 @@ use Rattle.journal.specs.declared.entry.Side.{Side}
 use Rattle.journal.specs.declared.entry.Side.TheVariants as SideIs
 use Rattle.journal.specs.declared.halt.Halt.{Halt}
 use Rattle.journal.specs.declared.halt.Halt.TheVariants as HaltIs
-use Rattle.journal.specs.Allowed.{Terms}
-use Rattle.journal.specs.World.{World, Process, Out}
+use Rattle.journal.specs.Allowed.{Terms, IsWith}
+use Rattle.journal.specs.World.{World, Process}
 use Rattle.journal.specs.Judge.{Fit, Faulty, judge, is_local, local, AreLocal, part_after}
 use Rattle.journal.specs.Lives.{IsTurnOf}
 use Rattle.world_laws.specs.Fits.{PhaseFits, TurnFits}
 use Rattle.world_laws.specs.Seats.{Meaning, Seat, IsSeatOf}
+use Rattle.process_table.specs.Rows.{HasRows}
 
 -- What a turn brings back.
-
--- each call that a program may ask has a row in the host table
-abbrev pub HasRows : {P : Type 0} → (P → ℕ → Type 0) → P → Type 0
-HasRows may_ask program = (call : ℕ) → may_ask program call → IsSome (row_of call)
 
 -- the engine of a seat may be told what is expected, and stands in a run of the seat's start with the seat's fuel
 pub record IsUnderWay {E P : Type 0} (engines : Meaning E P) (expected : Phase) (seat : Seat E) : Type 0 where
@@ -70,7 +67,7 @@ pub record HasEnded {E P : Type 0} (engines : Meaning E P) (at : P → Start →
   pub judged : IsJudged p calls halt
   pub phase : PhaseFits (engines.phase seat.engine) (engines.memory seat.engine) halt
 
--- the halt of a turn whose last step stopped at no ask
+-- the halt of a turn whose last step stopped at no ask; the row of an ask is never used, since no such turn is
 abbrev pub halt_after : Stop → Halt
 halt_after stop.Slice = HaltIs.Slice
 halt_after (stop.Asks ask) = HaltIs.NoMemory
@@ -78,24 +75,42 @@ halt_after stop.Done = HaltIs.Done
 halt_after (stop.Trap trap) = HaltIs.Trap trap
 halt_after (stop.Spent spent) = HaltIs.Spent spent
 
--- the clock was asked exactly for a receive
-abbrev pub IsSideOf : Halt → Side → Type 0
-IsSideOf HaltIs.Slice side = side ≡ SideIs.Nothing
-IsSideOf (HaltIs.Asks request) SideIs.Nothing = request.ask.call ≢ receive.call
-IsSideOf (HaltIs.Asks request) (SideIs.Clock now) = request.ask.call ≡ receive.call
-IsSideOf (HaltIs.Asks request) SideIs.NoMemory = ⊥
-IsSideOf HaltIs.Done side = side ≡ SideIs.Nothing
-IsSideOf (HaltIs.Trap trap) side = side ≡ SideIs.Nothing
-IsSideOf (HaltIs.Spent spent) side = side ≡ SideIs.Nothing
-IsSideOf (HaltIs.Host fault request) side = side ≡ SideIs.Nothing
-IsSideOf HaltIs.NoMemory side = side ≡ SideIs.Nothing
+-- The clock was asked exactly for a receive: then the halt comes with a time, which is the one that the clock tells, where it
+-- tells one. With any other halt comes nothing.
+abbrev pub IsSideOf : (clock : Option ℕ) → Halt → Side → Type 0
+IsSideOf clock HaltIs.Slice side = side ≡ SideIs.Nothing
+IsSideOf clock (HaltIs.Asks request) SideIs.Nothing = request.ask.call ≢ receive.call
+IsSideOf clock (HaltIs.Asks request) (SideIs.Clock now) = (request.ask.call ≡ receive.call) × IfSome clock (λ time. now ≡ time)
+IsSideOf clock (HaltIs.Asks request) SideIs.NoMemory = ⊥
+IsSideOf clock HaltIs.Done side = side ≡ SideIs.Nothing
+IsSideOf clock (HaltIs.Trap trap) side = side ≡ SideIs.Nothing
+IsSideOf clock (HaltIs.Spent spent) side = side ≡ SideIs.Nothing
+IsSideOf clock (HaltIs.Host fault request) side = side ≡ SideIs.Nothing
+IsSideOf clock HaltIs.NoMemory side = side ≡ SideIs.Nothing
+
+-- what an outside tells of itself: its counts of faults, of waits and of rests, and the time of its clock, where it tells one
+pub record Telling : Type 0 where
+  pub faults : ℕ
+  pub waits : ℕ
+  pub rests : ℕ
+  pub clock : Option ℕ
+
+abbrev pub telling : (faults waits rests : ℕ) → (clock : Option ℕ) → Telling
+telling faults waits rests clock = record { faults = faults; waits = waits; rests = rests; clock = clock }
+
+-- no count of the outside fell, and its clock tells what it told
+pub record OutsideKeeps (old new : Telling) : Type 0 where
+  pub faults : old.faults ≤ new.faults
+  pub waits : old.waits ≤ new.waits
+  pub rests : old.rests ≤ new.rests
+  pub clock : new.clock ≡ old.clock
 
 -- What is brought back of the process of the seat `before` may be given in every world in which the worker has that process
--- as it was: the program that its start names is there, and asks only calls that have a row.
+-- as it was, also where it is doomed by now: the program that its start names is there, and asks only calls that have a row.
 abbrev pub MayBeGiven : {E P : Type 0} → Meaning E P → (P → Start → Option StartRefusal) → (P → Start → List Call → ℕ → Option Standing) → (P → ℕ → Type 0) → (before after : Seat E) → List Call → Halt → Side → Type 0
 MayBeGiven {P = P} engines begin at may_ask before after calls halt side =
     (programs : List P) (terms : Terms) (w : World) (worker : ℕ) (program : P) →
-    (w.process before.start.pid).stage ≡ Out worker →
+    IsWith (w.process before.start.pid).stage worker →
     IsSeatOf engines programs (w.process before.start.pid) Running before →
     slice_get programs before.start.«module» ≡ Some program → HasRows may_ask program →
     TurnFits engines (record { programs = programs; begin = begin; at = at; terms = terms }) w worker before.start.pid after calls halt side

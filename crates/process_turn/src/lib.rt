@@ -7,6 +7,8 @@
 
 mod answer;
 mod resolve;
+#[cfg(test)]
+mod tests;
 mod whole_turn;
 
 pub use whole_turn::turn;

@@ -7,7 +7,7 @@ ghost use Rattle.host_port.specs.declared.call.Call.{Call as TheCall};
 ghost use Rattle.journal.specs.World.{Process};
 ghost use Rattle.world_laws.specs.Seats.{meaning};
 ghost use Rattle.process_table.specs.Holds.{seat_of};
-ghost use Rattle.process_turn.specs.Brings.{IsUnderWay, IsAt, GoesTo, HasEnded, IsSideOf, MayBeGiven, halt_after};
+ghost use Rattle.process_turn.specs.Brings.{IsUnderWay, IsAt, GoesTo, HasEnded, IsSideOf, MayBeGiven, OutsideKeeps, telling, halt_after};
 
 use crate::answer::{is_local_call, judged, reply_to, scratch_after};
 use crate::resolve::resolve;
@@ -155,7 +155,10 @@ fn run<E: Engine, O: Outside>(alloc: Global, proc: &mut Proc<E, O>, calls: &mut 
 
 /// What comes from outside with a halt: the time with a receive, else nothing.
 fn side_of<O: Outside>(halt: &Halt, outside: &mut O) -> Side
-    ensures { IsSideOf halt.now result }
+    ensures side { IsSideOf (O.clock outside.old) halt.now result }
+    ensures outside { OutsideKeeps
+        (telling (O.faults outside.old) (O.waits outside.old) (O.rests outside.old) (O.clock outside.old))
+        (telling (O.faults outside.new) (O.waits outside.new) (O.rests outside.new) (O.clock outside.new)) }
 {
     match halt {
         Halt::Asks(request) => {
@@ -172,7 +175,8 @@ fn side_of<O: Outside>(halt: &Halt, outside: &mut O) -> Side
 /// Runs the turn of a process: at most 10,000 instructions and 64 local calls.
 ///
 /// It is never refused. Where the machine refuses memory, the turn is cut short at the ask that
-/// needed it, and its halt says so. What it brings back, `Node::give` takes.
+/// needed it, and its halt says so. What it brings back, `Node::give` takes. The outside is asked
+/// its time for a receive, and nothing else.
 pub fn turn<E: Engine, O: Outside>(
     alloc: Global,
     mut proc: Proc<E, O>,
@@ -180,7 +184,10 @@ pub fn turn<E: Engine, O: Outside>(
 ) -> Turn<E, O>
     requires way { IsUnderWay (meaning E.stands E.phase E.memory) Running (seat_of proc) }
     ensures same { result.proc.start ≡ proc.start }
-    ensures side { IsSideOf result.halt result.side }
+    ensures side { IsSideOf (O.clock outside.old) result.halt result.side }
+    ensures outside { OutsideKeeps
+        (telling (O.faults outside.old) (O.waits outside.old) (O.rests outside.old) (O.clock outside.old))
+        (telling (O.faults outside.new) (O.waits outside.new) (O.rests outside.new) (O.clock outside.new)) }
     ensures ends { (program : E.Program) (p : Process) →
         IsAt (meaning E.stands E.phase E.memory) program p (seat_of proc) →
         HasEnded (meaning E.stands E.phase E.memory) E.at program p (seat_of result.proc) result.calls result.halt }

@@ -50,7 +50,7 @@ impl<E: Engine, O: Outside> Node<E, O> {
         requires going { (world_of self.old).over ≡ false }
         requires some { 0 < length (world_of self.old).ready }
         ensures same { SameTerms self.old self.new }
-        ensures taken { IsTaken (meaning E.stands E.phase E.memory) self.old self.new worker result }
+        ensures taken { IsTaken (meaning E.stands E.phase E.memory) E.may_ask self.old self.new worker result }
         ensures run { IsRun (setting_of E.begin E.at self.new) self.new.book }
     {
         let Some(pid) = self.ready.pop_front() else {
@@ -72,7 +72,7 @@ impl<E: Engine, O: Outside> Node<E, O> {
     pub fn take(&mut self, worker: u8) -> Taken<E, O>
         requires { IsReserved self.old }
         ensures same { SameTerms self.old self.new }
-        ensures taken { IsTaken (meaning E.stands E.phase E.memory) self.old self.new worker result }
+        ensures taken { IsTaken (meaning E.stands E.phase E.memory) E.may_ask self.old self.new worker result }
         ensures run { IsRun (setting_of E.begin E.at self.new) self.new.book }
     {
         if self.over {

@@ -13,7 +13,12 @@ use Rattle.process_table.proofs.node.Node.give_send.Goals as goal
 pub index_mut-requires : goal.index_mut-requires
 index_mut-requires g c =
     let i = c.self.inside in
-    (gives-within i.journal (held_of i.homes.items i.ready.items i.over (map (λ box. box.items) i.mail.items) i.sends i.out) c.args.proc.start.pid c.args.worker _ _ _ c.self.invariant (rw (← c.self.view_is) at c.requires.fits.allowed.away)).1
+    (gives-within i.journal (held_of i.homes.items i.ready.items i.over (map (λ box. box.items) i.mail.items) i.sends i.out) c.args.proc.start.pid c.args.worker _ _ _ c.self.invariant.keeps (rw (← c.self.view_is) at c.requires.fits.allowed.away)).1
+
+pub index_mut-requires-2 : goal.index_mut-requires-2
+index_mut-requires-2 g c =
+    let i = c.self.inside in
+    (gives-within i.journal (held_of i.homes.items i.ready.items i.over (map (λ box. box.items) i.mail.items) i.sends i.out) c.args.proc.start.pid c.args.worker _ _ _ c.self.invariant.keeps (rw (← c.self.view_is) at c.requires.fits.allowed.away)).0
 
 pub put_message-outcome-requires : goal.put_message-outcome-requires
 put_message-outcome-requires g c =
@@ -28,24 +33,27 @@ answer-requires g c =
 pub push_back_reserved-requires : goal.push_back_reserved-requires
 push_back_reserved-requires g c =
     let i = c.self.inside in
-    place-left i.journal (held_of i.homes.items i.ready.items i.over (map (λ box. box.items) i.mail.items) i.sends i.out) c.args.proc.start.pid c.args.worker _ _ _ _ c.self.invariant (rw (← c.self.view_is) at c.requires.fits.allowed.away) i.ready.ok.0
+    place-left i.journal (held_of i.homes.items i.ready.items i.over (map (λ box. box.items) i.mail.items) i.sends i.out) c.args.proc.start.pid c.args.worker _ _ _ _ c.self.invariant.keeps (rw (← c.self.view_is) at c.requires.fits.allowed.away) i.ready.ok.0
 
 pub overflow_sub-self : goal.overflow_sub-self
 overflow_sub-self g c =
     let i = c.self.inside in
-    let o = gives-out i.journal (held_of i.homes.items i.ready.items i.over (map (λ box. box.items) i.mail.items) i.sends i.out) c.args.proc.start.pid c.args.worker _ _ _ c.self.invariant (rw (← c.self.view_is) at c.requires.fits.allowed.away) in
+    let o = gives-out i.journal (held_of i.homes.items i.ready.items i.over (map (λ box. box.items) i.mail.items) i.sends i.out) c.args.proc.start.pid c.args.worker _ _ _ c.self.invariant.keeps (rw (← c.self.view_is) at c.requires.fits.allowed.away) in
     omega (arith, o)
 
 pub invariant_of-self : goal.invariant_of-self
 invariant_of-self g c =
     let i = c.self.inside in
-    node-send g.E.Engine.begin g.E.Engine.at (map arc_value i.programs.items) i.journal c.add.new.self i.live i.idle i.homes.items _ (λ box. box.items) i.mail.items c.index_mut.result.now c.put_message-outcome.new.mail i.ready.items _ i.over i.sends _ i.out _ _ _ _ _ _ c.args.worker c.args.proc (record { engine = c.answer.new.self; start = c.args.proc.start; scratch = c.put_message-outcome.new.scratch; fuel = c.args.proc.fuel; of = c.args.proc.of }) c.args.calls c.args.request c.put_message-outcome.result
-    c.self.invariant i.homes.ok.0 i.mail.ok.0 (rw (← c.self.view_is) at c.requires.going) c.requires.call (rw (← c.self.view_is) at c.requires.fits) c.index_mut.ensures.value c.put_message-outcome.ensures.posts
-    (record { running = c.answer.ensures.phase; stands = rw c.post_code.ensures at c.answer.ensures.stands }) refl refl refl c.push_back_reserved.ensures.items (λ e. omega (arith, e)) c.count_sent-self-inside.ensures refl c.push_back_reserved.ensures.capacity (rw c.post_side.ensures at c.add.ensures)
+    record {
+      keeps = node-send g.E.Engine.begin g.E.Engine.at (map arc_value i.programs.items) i.journal c.add.new.self i.live i.idle i.homes.items _ (λ box. box.items) i.mail.items c.index_mut.result.now c.put_message-outcome.new.mail i.ready.items _ i.over i.sends _ i.out _ _ _ _ _ _ c.args.worker c.args.proc (record { engine = c.answer.new.self; start = c.args.proc.start; scratch = c.put_message-outcome.new.scratch; fuel = c.args.proc.fuel; of = c.args.proc.of }) c.args.calls c.args.request c.put_message-outcome.result
+          c.self.invariant.keeps i.homes.ok.0 i.mail.ok.0 (rw (← c.self.view_is) at c.requires.going) c.requires.call (rw (← c.self.view_is) at c.requires.fits) c.index_mut.ensures.value c.put_message-outcome.ensures.posts
+          (record { running = c.answer.ensures.phase; stands = rw c.post_code.ensures at c.answer.ensures.stands }) refl refl refl c.push_back_reserved.ensures.items (λ e. omega (arith, e)) c.count_sent-self-inside.ensures refl c.push_back_reserved.ensures.capacity (rw c.post_side.ensures at c.add.ensures);
+      rows = c.self.invariant.rows;
+    }
 
 pub returns-clause-given : goal.returns-clause-given
 returns-clause-given g c =
     rw (← c.self.view_is) (records-send c.self.inside.journal c.add.new.self c.args.worker c.args.proc.start.pid c.args.calls c.args.proc.fuel c.args.request c.put_message-outcome.result (rw c.post_side.ensures at c.add.ensures))
 
 pub returns-clause-run : goal.returns-clause-run
-returns-clause-run g c = (invariant_of-self g c).stands.run
+returns-clause-run g c = (invariant_of-self g c).keeps.stands.run

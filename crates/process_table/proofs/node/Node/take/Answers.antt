@@ -12,4 +12,4 @@ returns-clause-taken g c =
     let k = i.ready.ok.0 in
     let empty : length i.ready.items ≡ 0 = grind (arith, common_steps, k) in
     let recorded = rw (← c.self.view_is) at c.end_all.ensures.recorded in
-    rw (← c.self.view_is) (takes-over (seen (map arc_value i.programs.items) i.journal i.live i.idle) c.end_all.new.self (held_of i.homes.items i.ready.items i.over (map (λ box. box.items) i.mail.items) i.sends i.out) c.args.worker c.self.invariant.stands c.if-self.false empty c.if-self-gt0.false c.end_all.ensures.over recorded)
+    rw (← c.self.view_is) (takes-over (seen (map arc_value i.programs.items) i.journal i.live i.idle) c.end_all.new.self (held_of i.homes.items i.ready.items i.over (map (λ box. box.items) i.mail.items) i.sends i.out) c.args.worker c.self.invariant.keeps.stands c.if-self.false empty c.if-self-gt0.false c.end_all.ensures.over recorded)

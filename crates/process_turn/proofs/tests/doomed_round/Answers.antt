@@ -1,0 +1,23 @@
+use Rattle.std.proofs.Common.{◌∙◌}
+use Rattle.process_table.specs.Holds.{seat_of}
+use Rattle.world_laws.specs.Seats.{meaning}
+use Rattle.process_turn.proofs.Dooms.{starved-away}
+use Rattle.process_turn.proofs.Rounds.{taken-under-way, taken-with, taken-going, brought-fits}
+use Rattle.process_turn.proofs.tests.doomed_round.Goals as goal
+
+pub turn-brought-requires-clause-way : goal.turn-brought-requires-clause-way
+turn-brought-requires-clause-way g c κs within =
+    taken-under-way (meaning g.E.Engine.stands g.E.Engine.phase g.E.Engine.memory) g.E.Engine.may_ask c.reserve_turn.new.self c.take.new.self c.args.worker (seat_of c.in-Proc.proc) c.in-Proc.ensures.taken
+
+pub give-requires-after_bounds : goal.give-requires-after_bounds
+give-requires-after_bounds g c κs within =
+    let engines = meaning g.E.Engine.stands g.E.Engine.phase g.E.Engine.memory in
+    let taken = c.in-Proc.ensures.taken in
+    let brought = c.turn-brought.result in
+    let seat = seat_of c.in-Proc.proc in
+    let old = c.reserve_turn.new.self in
+    let going = taken-going engines g.E.Engine.may_ask old c.take.new.self c.args.worker seat taken in
+    let starve = c.starve.ensures.recorded going in
+    let still = starved-away engines old.programs c.take.new.self.book c.starve.new.self.book starve.0 7 seat.start.pid c.args.worker seat starve.1 (taken-with engines g.E.Engine.may_ask old c.take.new.self c.args.worker seat taken) taken.seated in
+    brought-fits engines g.E.Engine.begin g.E.Engine.at g.E.Engine.may_ask old.programs c.starve.new.self c.args.worker taken.program seat (seat_of brought.proc) brought.calls brought.halt brought.side
+    c.turn-brought.ensures.given (c.starve.ensures.same.programs ∙ c.in-Proc.ensures.same.programs) still.0 still.1 taken.found taken.rows c.turn-brought.ensures.same
