@@ -11,7 +11,8 @@ use Rattle.body_reader.specs.Reading.{NoFront, ReadsOnly}
 use Rattle.body_reader.specs.Items.{Item, PlainItem, TableItem, OpenItem, ElseItem, EndItem, IsOpener, SpellsItem, instr_of, labels_in, code_of, pooled, items_of, depth_after, Closes, Collects}
 use Rattle.body_reader.proofs.Pieces.{passed_both, follows, spells_more}
 use Rattle.body_reader.proofs.Marks.{plain_mark, opener_mark, end_mark, vector_bytes, below, mark}
-use Rattle.body_reader.proofs.Lists.{pooled-append, code_of-append, spells-append, spells-split, spelled_items, spelled_code, has_plain, closes_whole, whole_code, whole_labels, known_spelled, known_whole, same_items}
+use Rattle.wasm_form.proofs.Plain.{has_plain}
+use Rattle.body_reader.proofs.Lists.{pooled-append, code_of-append, spells-append, spells-split, spelled_items, spelled_code, closes_whole, whole_code, whole_labels, known_spelled, known_whole, same_items}
 
 -- an instruction has a byte and one for each of its labels at least
 item_bytes : (s : List ℕ) (item : Item) → SpellsItem s item → 1 + length (labels_in item) ≤ length s

@@ -13,6 +13,7 @@ use Rattle.wasm_form.specs.declared.immediates.Immediates.{Immediates}
 use Rattle.wasm_form.specs.declared.immediates.Immediates.TheVariants as kind
 use Rattle.wasm_form.specs.declared.sort.Sort.{Sort}
 use Rattle.wasm_form.specs.declared.sort.Sort.TheVariants as sort
+use Rattle.wasm_form.proofs.Plain.{spelled_plain}
 use Rattle.body_reader.specs.Items.{Item, PlainItem, TableItem, OpenItem, ElseItem, EndItem, IsOpener, SpellsItem, instr_of, labels_in, code_of, pooled, items_of, Closes, IsKnown}
 
 -- lists of items, one after another
@@ -156,32 +157,6 @@ spelled_code (IfElseOf r a d b) s h =
       spelled_code b q.3.1 q.3.3,
       ended 0x04 p.0 p.1 p.2 p.3 s 0x05 p.6 p.8 ∙ ap (λ (l : List ℕ). 0x04 ∷ (p.0 ++ (p.1 ++ 0x05 ∷ l))) tail,
     )
-
--- what bytes spell is plain
-spelled_fits : (k : Immediates) (s : List ℕ) (i : Imm) → SpellsImmediates k s i → fits k i ≡ true
-spelled_fits kind.Bare s i h = ap (fits kind.Bare) h.1
-spelled_fits kind.Index s i h = ap (fits kind.Index) h.2
-spelled_fits kind.TypeAndZero s i h = ap (fits kind.TypeAndZero) h.4
-spelled_fits kind.Zero s i h = ap (fits kind.Zero) h.1
-spelled_fits kind.Memory s i h = ap (fits kind.Memory) h.7
-spelled_fits kind.S32 s i h = ap (fits kind.S32) h.2
-spelled_fits kind.S64 s i h = ap (fits kind.S64) h.2
-spelled_fits kind.F32 s i h = ap (fits kind.F32) h.1
-spelled_fits kind.F64 s i h = ap (fits kind.F64) h.1
-
-spelled_plain : (s : List ℕ) (i : Instr) → SpellsPlain s i → IsPlain i
-unfolding sort_of
-spelled_plain s i h =
-    ap (λ o. sort_at o i.code i.imm) h.2 ∙ ap (λ (b : Bool). cond b (Some sort.Plain) None) (spelled_fits h.0 h.1 i.imm h.3)
-
-pub has_plain : (c : Code) (s : List ℕ) → SpellsCode s c → HasPlain c
-has_plain Empty s h = tt
-has_plain (Then i rest) s h = (spelled_plain h.0 i h.2, has_plain rest h.1 h.3)
-has_plain (TableOf labels last rest) s h = has_plain rest h.1 h.3
-has_plain (BlockOf r a b) s h = (has_plain a h.1 h.4, has_plain b h.2 h.5)
-has_plain (LoopOf r a b) s h = (has_plain a h.1 h.4, has_plain b h.2 h.5)
-has_plain (IfOf r a b) s h = (has_plain a h.1 h.4, has_plain b h.2 h.5)
-has_plain (IfElseOf r a d b) s h = (has_plain a h.1 h.5, has_plain d h.2 h.6, has_plain b h.3 h.7)
 
 -- a tree's items keep as many lists open as there are before it
 down : (d : ℕ) (m : List Item) → Closes d m → Closes (d + 1 - 1) m

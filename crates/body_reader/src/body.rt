@@ -1,6 +1,6 @@
 //! Bodies of functions.
 
-ghost use Rattle.std.specs.Prelude.{◌≡◌, ◌↔◌, ◌<◌, ◌^◌, IsTrue, OnErr, length, sum_by};
+ghost use Rattle.std.specs.Prelude.{◌≡◌, ◌<◌, ◌^◌, OnErr, length};
 ghost use Rattle.wasm_form.specs.Sections.{SpellsFunction, SpellsBody};
 ghost use Rattle.body_reader.specs.Reading.{Answers, AnswersWhole};
 
@@ -8,7 +8,7 @@ use crate::numbers::{take_at, u32_at};
 use crate::{Part, ReadFault, expr_at, read_vector};
 use leb_read::Cursor;
 use std::alloc::Global;
-use wasm_form::{Body, LocalRun};
+use wasm_form::{Body, LocalRun, are_few};
 
 /// The body at the cursor, with its size before it (Core 1.0, 5.5.13), which is passed over.
 /// `Malformed` where no front of the bytes left, of the size that it names, is a body; `NoMemory`
@@ -64,18 +64,4 @@ fn function_at(alloc: Global, cursor: &mut Cursor<'_>) -> Result<Body, ReadFault
     }
     let expr = expr_at(alloc, cursor)?;
     Ok(Body { locals, expr })
-}
-
-/// Whether there are fewer than 2 ^ 32 locals in all.
-fn are_few(runs: &[LocalRun]) -> bool
-    ensures { IsTrue result ↔ (sum_by (λ run. run.count) runs.now < 2 ^ 32) }
-{
-    let mut total = 0u64;
-    for run in runs {
-        total += u64::from(run.count);
-        if total >= 1 << 32 {
-            return false;
-        }
-    }
-    true
 }

@@ -4,8 +4,9 @@ use Rattle.std.proofs.lemmas.List.{take_at}
 use Rattle.std.specs.Prelude.{slice_index_or}
 use Rattle.wasm_form.specs.declared.instr.Instr.{Instr}
 use Rattle.wasm_form.specs.declared.instr.Imm.TheVariants.{I32}
-use Rattle.wasm_form.specs.Small.{SmallInstr, Nop, I32Const, I32Add, Drop, instr_of, end_instr}
-use Rattle.wasm_form.specs.Contents.{Contents}
+use Rattle.wasm_form.specs.Small.{SmallInstr, Nop, I32Const, I32Add, Drop, instr_of}
+use Rattle.wasm_form.specs.Trees.{end_instr}
+use Rattle.wasm_form.specs.declared.parts.Parts.{Parts}
 use Rattle.wasm_form.specs.Form.{module_of}
 use Rattle.wasm_form.specs.Operands.{Executes, ExecutesAll}
 use Rattle.fuel_stepper.specs.Line.{small_instr, first_code, without_end, line_of}
@@ -77,7 +78,7 @@ one_line (i ∷ a) (j ∷ b) end e =
 
 -- a module has one list of instructions
 pub one_module : (a b : List SmallInstr) → module_of a ≡ module_of b → a ≡ b
-one_module a b e = one_line a b end_instr (ap (λ (m : Contents). first_code m.bodies) e)
+one_module a b e = one_line a b end_instr (ap (λ (m : Parts). first_code m.bodies) e)
 
 -- an instruction is the one that its code stands for
 small_instr-of : (list : List SmallInstr) → map small_instr (map instr_of list) ≡ list
@@ -93,6 +94,6 @@ without_end-of list end =
     take_at list (end ∷ []) (length (list ++ end ∷ []) - 1) (omega (arith, length-append list (end ∷ [])))
 
 -- the line of a module of the form is its list
-pub line_is : (m : Contents) (list : List SmallInstr) → m ≡ module_of list → line_of m ≡ list
+pub line_is : (m : Parts) (list : List SmallInstr) → m ≡ module_of list → line_of m ≡ list
 line_is m list e =
     ap line_of e ∙ ap (λ l. map small_instr l) (without_end-of (map instr_of list) end_instr) ∙ small_instr-of list

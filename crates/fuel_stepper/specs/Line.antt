@@ -1,6 +1,6 @@
 -- The line of instructions that a module of the one form has.
 use Rattle.std.specs.Prelude.{ℕ, ◌-◌, List, [], ◌∷◌, length, map, take, cond, nat_eq}
-use Rattle.wasm_form.specs.Contents.{Contents}
+use Rattle.wasm_form.specs.declared.parts.Parts.{Parts}
 use Rattle.wasm_form.specs.Small.{SmallInstr, Nop, I32Const, I32Add, Drop}
 use Rattle.wasm_form.specs.declared.body.Body.{Body}
 use Rattle.wasm_form.specs.declared.instr.Imm.{Imm}
@@ -28,5 +28,5 @@ abbrev pub without_end : List Instr → List Instr
 without_end code = take (length code - 1) code
 
 -- the instructions of the first body, without its end
-abbrev pub line_of : Contents → List SmallInstr
+abbrev pub line_of : Parts → List SmallInstr
 line_of m = map small_instr (without_end (first_code m.bodies))

@@ -1,4 +1,4 @@
-ghost use Rattle.std.specs.Prelude.{◌≡◌, [], ◌∷◌, IfOk};
+ghost use Rattle.std.specs.Prelude.{IfOk};
 ghost use Rattle.wasm_form.specs.Form.{IsSmallModule};
 
 use crate::{Instance, SmallInstance, SmallModule, Stop};
@@ -9,7 +9,7 @@ use memory_refusal::NoMemory;
 use std::alloc::Global;
 use std::sync::Arc;
 use std::test::Fail;
-use wasm_form::{Bodies, Body, Expr, Imm, Indexes, Instr, Instrs, Matches, Module, Runs};
+use wasm_form::{Imm, Instr, Instrs, Module, small_module};
 use wasm_ops::Num;
 
 /// A small module with the instructions 1 + 2, dropped.
@@ -37,7 +37,7 @@ fn sum(alloc: Global) -> Result<Module, NoMemory>
         code: 0x0B,
         imm: Imm::None,
     })?;
-    let module = module_with(alloc, code)?;
+    let module = small_module(alloc, code)?;
     Ok(module)
 }
 
@@ -58,25 +58,8 @@ fn constant(alloc: Global) -> Result<Module, NoMemory>
         code: 0x0B,
         imm: Imm::None,
     })?;
-    let module = module_with(alloc, code)?;
+    let module = small_module(alloc, code)?;
     Ok(module)
-}
-
-/// The module whose one body has this code.
-fn module_with(alloc: Global, code: Instrs) -> Result<Module, NoMemory>
-    ensures { IfOk result (λ made. made.bodies
-        ≡ record { locals = []; expr = record { code = code; labels = []; matches = [] } } ∷ []) }
-{
-    let mut bodies = Bodies::new(alloc);
-    bodies.push(Body {
-        locals: Runs::new(alloc),
-        expr: Expr {
-            code,
-            labels: Indexes::new(alloc),
-            matches: Matches::new(alloc),
-        },
-    })?;
-    Ok(Module::new(bodies))
 }
 
 /// The start of process 1 by this name, with this fuel.

@@ -1,6 +1,6 @@
 //! Reads a module from its bytes.
 //!
-//! [`read_module`] answers the parts of the one module that the bytes spell by the standard's grammar,
+//! [`read_module`] answers the one module that the bytes spell by the standard's grammar,
 //! as `wasm_form` defines it; the bytes are malformed exactly where they spell none.
 //!
 //! `Small` is the one form that is run so far, a function that is a straight line of instructions.

@@ -6,7 +6,7 @@ use crate::frame::instructions_of;
 use crate::line::read_line;
 use memory_refusal::NoMemory;
 use std::alloc::Global;
-use wasm_form::{Bodies, Body, Expr, Imm, Indexes, Instr, Matches, Module, Runs};
+use wasm_form::{Imm, Instr, Module, small_module, small_modules};
 
 /// The instruction that ends an expression.
 const END: Instr = Instr {
@@ -22,6 +22,8 @@ pub fn read_small(alloc: Global, bytes: &[u8]) -> Result<Option<Module>, NoMemor
     ensures none { IfOk result (λ read. IfNone read (
         (list : List SmallInstr) → ¬ Small bytes.now list)) }
 {
+    // So some bytes spell the module, as `Module` wants it.
+    small_modules();
     let Some(code) = instructions_of(bytes) else {
         return Ok(None);
     };
@@ -29,14 +31,6 @@ pub fn read_small(alloc: Global, bytes: &[u8]) -> Result<Option<Module>, NoMemor
         return Ok(None);
     };
     code.push(END)?;
-    let mut bodies = Bodies::new(alloc);
-    bodies.push(Body {
-        locals: Runs::new(alloc),
-        expr: Expr {
-            code,
-            labels: Indexes::new(alloc),
-            matches: Matches::new(alloc),
-        },
-    })?;
-    Ok(Some(Module::new(bodies)))
+    let module = small_module(alloc, code)?;
+    Ok(Some(module))
 }

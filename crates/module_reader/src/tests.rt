@@ -2,7 +2,7 @@ use super::*;
 use body_reader::ReadFault;
 use std::alloc::Global;
 use std::test::Fail;
-use wasm_form::{Imm, Instr, Module};
+use wasm_form::{ExportKind, Imm, Instr, Module};
 
 const FIRST: [u8; 39] = [
     0x00, 0x61, 0x73, 0x6D, 0x01, 0x00, 0x00, 0x00, 0x01, 0x04, 0x01, 0x60, 0x00, 0x00, 0x03, 0x02,
@@ -121,18 +121,26 @@ fn reads_sizes_of_one_byte(rt: HostRuntime) -> Result<(), Fail> {
 
 /// What reading answers, for a table: how many bodies the module has, or the fault.
 fn bodies_of(alloc: Global, bytes: &[u8]) -> Result<usize, ReadFault> {
-    let parts = read_module(alloc, bytes)?;
-    Ok(parts.bodies.len())
+    let module = read_module(alloc, bytes)?;
+    Ok(module.bodies().len())
 }
 
 #[test]
 fn reads_each_length_of_a_module(rt: HostRuntime) -> Result<(), Fail> {
-    let parts = read_module(rt.alloc(), &FIRST)?;
-    assert_eq!(rt; parts.functions.as_slice(), [0u32].as_slice());
+    let module = read_module(rt.alloc(), &FIRST)?;
+    assert_eq!(rt; module.functions(), [0u32].as_slice());
     assert_eq!(rt;
-        (parts.types.len(), parts.exports.len(), parts.bodies.len()),
+        (
+            module.types().len(),
+            module.exports().len(),
+            module.bodies().len()
+        ),
         (1, 1, 1)
     );
+    let export = &module.exports()[0];
+    assert_eq!(rt; export.name.as_str(), "_start");
+    assert_eq!(rt; (export.kind, export.index), (ExportKind::Function, 0));
+    assert_eq!(rt; module.start(), None);
     for length in 0..39usize {
         let want = match length {
             8 | 14 => Ok(0),

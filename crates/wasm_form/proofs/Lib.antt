@@ -5,3 +5,15 @@ pub mod OneCode
 pub mod OneModule
 pub mod Walks
 pub mod Taken
+pub mod Octets
+pub mod SmallSpelled
+pub mod LeastNumbers
+pub mod LeastParts
+pub mod LeastModule
+pub mod Shortest
+pub mod ShortestCode
+pub mod ShortestSections
+pub mod Spelled
+pub mod Plain
+pub mod Unspelled
+pub mod Rematching

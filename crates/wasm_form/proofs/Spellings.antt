@@ -3,9 +3,10 @@ use Rattle.std.proofs.Common.{map, ◌≡◌, ℕ, ℤ, List, [], ◌∷◌, ◌
 use Rattle.std.proofs.lemmas.List.{append_cancel_left, append_cancel_right}
 use Rattle.leb_read.specs.Numbers.{SpellsSigned}
 use Rattle.std.specs.Int.{cast_unsigned, w32}
-use Rattle.wasm_form.specs.Small.{SmallInstr, Nop, I32Const, I32Add, Drop, SpellsInstr, SpellsInstrs, instr_of, end_instr}
+use Rattle.wasm_form.specs.Small.{SmallInstr, Nop, I32Const, I32Add, Drop, SpellsInstr, SpellsInstrs, instr_of}
+use Rattle.wasm_form.specs.Trees.{end_instr}
 use Rattle.wasm_form.specs.Form.{Small, IsFramed, before_code, code_section, module_of, body_of}
-use Rattle.wasm_form.specs.Contents.{Contents}
+use Rattle.wasm_form.specs.declared.parts.Parts.{Parts}
 use Rattle.wasm_form.specs.declared.instr.Instr.{Instr}
 use Rattle.wasm_form.specs.declared.instr.Imm.TheVariants as imm
 use Rattle.wasm_form.specs.declared.body.Body.{Body}
@@ -100,7 +101,7 @@ same_instrs (i ∷ a) (j ∷ b) e =
 -- a module is that of one list
 pub one_module : (a b : List SmallInstr) → module_of a ≡ module_of b → a ≡ b
 one_module a b e =
-    let bodies : body_of a ∷ [] ≡ body_of b ∷ [] = ap (λ (m : Contents). m.bodies) e in
+    let bodies : body_of a ∷ [] ≡ body_of b ∷ [] = ap (λ (m : Parts). m.bodies) e in
     let body : body_of a ≡ body_of b = cc in
     let code : map instr_of a ++ end_instr ∷ [] ≡ map instr_of b ++ end_instr ∷ [] = ap (λ (w : Body). w.expr.code) body in
     same_instrs a b (append_cancel_right (map instr_of a) (map instr_of b) (end_instr ∷ []) code)

@@ -1,4 +1,3 @@
-pub mod Contents
 pub mod Small
 pub mod Operands
 pub mod Form
@@ -14,3 +13,7 @@ pub mod Typing
 pub mod Validity
 pub mod Profile
 pub mod Verdict
+pub mod Least
+pub mod Ranges
+pub mod Spellable
+pub mod Lengths

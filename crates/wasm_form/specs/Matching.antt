@@ -2,11 +2,12 @@
 -- callers speak of trees alone.
 use Rattle.std.specs.Prelude.{◌≡◌, ℕ, ◌+◌, List, [], ◌∷◌, reverse, Option, Some, None, Bool, false, is_some, is_none, ◌==◌, ◌&&◌, if◌then◌else◌, ⊤, Result, MatchResult}
 use Rattle.wasm_form.specs.Instructions.{immediates_of, fits}
-use Rattle.wasm_form.specs.Trees.{Code, Empty, Then, TableOf, BlockOf, LoopOf, IfOf, IfElseOf}
+use Rattle.wasm_form.specs.Trees.{Code, Empty, Then, TableOf, BlockOf, LoopOf, IfOf, IfElseOf, IsFlat}
 use Rattle.wasm_form.specs.declared.instr.Instr.{Instr}
 use Rattle.wasm_form.specs.declared.instr.Imm.{Imm}
 use Rattle.wasm_form.specs.declared.instr.Imm.TheVariants as imm
 use Rattle.wasm_form.specs.declared.immediates.Immediates.{Immediates}
+use Rattle.wasm_form.specs.declared.expr.Expr.{Expr}
 use Rattle.wasm_form.specs.declared.expr.Match.{Match}
 use Rattle.wasm_form.specs.declared.fault.PartsFault.{PartsFault}
 use Rattle.wasm_form.specs.declared.fault.PartsFault.TheVariants as faults
@@ -120,3 +121,7 @@ is_one_list (o ∷ p ∷ opens) = false
 -- the instructions are one list and its end, and have all the labels
 abbrev pub is_whole : Walked → Bool
 is_whole w = (w.before == 0) && is_one_list w.opens
+
+-- the expression is a tree, flat, with its matching places
+abbrev pub IsTree : Expr → Type 0
+IsTree e = (tree : Code) × HasPlain tree × IsFlat e tree

@@ -1,5 +1,5 @@
 -- Which bytes spell which module (Core 1.0, 5.5).
-use Rattle.std.specs.Prelude.{◌≡◌, ℕ, ◌+◌, ◌≤◌, ◌==◌, ◌⊎◌, ⊤, List, [], ◌∷◌, ◌++◌, length, find, None, MatchOption}
+use Rattle.std.specs.Prelude.{◌≡◌, ℕ, ◌+◌, ◌^◌, ◌<◌, ◌≤◌, ◌==◌, ◌⊎◌, ⊤, List, [], ◌∷◌, ◌++◌, length, find, None, MatchOption, All}
 use Rattle.wasm_form.specs.Values.{SpellsU32, SpellsItems}
 use Rattle.wasm_form.specs.Sections.{SpellsCustom, SpellsTypes, SpellsImports, SpellsFunctions, SpellsTables, SpellsMemories, SpellsGlobals, SpellsExports, SpellsStart, SpellsElements, SpellsBodies, SpellsSegments}
 use Rattle.wasm_form.specs.declared.parts.Parts.{Parts}
@@ -47,3 +47,9 @@ pub record Spells (bytes : List ℕ) (m : Parts) : Type 0 where
   pub bodies : HasPart 10 SpellsBodies [] sections m.bodies
   pub segments : HasPart 11 SpellsSegments [] sections m.segments
   pub counts : length m.functions ≡ length m.bodies
+
+-- some bytes spell the module with these parts
+pub record IsSpelled (m : Parts) : Type 0 where
+  pub bytes : List ℕ
+  pub octets : All (λ b. b < 2 ^ 8) bytes
+  pub spelled : Spells bytes m

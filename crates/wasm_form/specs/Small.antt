@@ -33,7 +33,3 @@ instr_of Nop = record { code = 0x01; imm = imm.None }
 instr_of (I32Const bits) = record { code = 0x41; imm = imm.I32 bits }
 instr_of I32Add = record { code = 0x6A; imm = imm.None }
 instr_of Drop = record { code = 0x1A; imm = imm.None }
-
--- the instruction that ends an expression
-abbrev pub end_instr : Instr
-end_instr = record { code = 0x0B; imm = imm.None }

@@ -33,3 +33,8 @@ pub fn one_module()
 {
     leb_read::one_spelling();
 }
+
+/// The bytes of the one form spell the module with their instructions. It computes nothing.
+pub fn small_modules()
+    ensures { (bytes : List ℕ) (list : List SmallInstr) → Small bytes list → Spells bytes (module_of list) }
+{}

@@ -4,7 +4,8 @@
 //! with lists of instructions as trees; an [`Expr`] is such a tree in the order of its bytes. The
 //! law of this crate is that the same bytes spell one module at most.
 //!
-//! A [`Module`] is so far seen as its bodies alone, and `Small` is the one form that is run: a
+//! A [`Module`] has parts that some bytes spell; [`Module::from_parts`] makes one exactly where some
+//! do. `Small` is the one form that is run so far: a
 //! function that is a straight line of `nop`, `i32.const`, `i32.add` and `drop`.
 #![tactic(auto)]
 
@@ -14,10 +15,16 @@ mod fault;
 mod immediates;
 mod instr;
 mod laws;
+mod least;
+mod least_length;
+mod lengths;
+mod matched;
 mod matching;
 mod module;
 mod name;
 mod parts;
+mod sizes;
+mod small;
 mod sort;
 mod types;
 mod value_type;
@@ -28,7 +35,9 @@ pub use expr::{Expr, Indexes, Instrs, Match, Matches, Octets};
 pub use fault::PartsFault;
 pub use immediates::Immediates;
 pub use instr::{Imm, Instr};
-pub use laws::{one_expression, one_module, one_small_list};
+pub use laws::{one_expression, one_module, one_small_list, small_modules};
+pub use least::{least_contents, least_lengths};
+pub use least_length::{LeastLength, items_length, vector_length};
 pub use matching::match_blocks;
 pub use module::Module;
 pub use name::Name;
@@ -36,6 +45,8 @@ pub use parts::{
     Element, Elements, Export, ExportKind, Exports, GlobalDef, Globals, Import, Imported, Imports,
     Parts, Segment, Segments,
 };
+pub use sizes::are_few;
+pub use small::small_module;
 pub use sort::Sort;
 pub use types::{Bounds, FuncType, FuncTypes, GlobalType, Limits, ValTypes};
 pub use value_type::ValType;

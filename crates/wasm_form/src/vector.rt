@@ -52,6 +52,13 @@ impl<T> Vector<T> {
     {
         self.items.as_slice()
     }
+
+    /// The items, taken out.
+    pub fn into_vec(self) -> Vec<T>
+        ensures { result.items ≡ self }
+    {
+        self.items
+    }
 }
 
 impl<T: Drop> Vector<T> {

@@ -1,6 +1,33 @@
-use Rattle.std.proofs.Common.{[], ◌∷◌, refl, rules}
+use Rattle.std.proofs.Common.{◌≡◌, ◌∙◌, ◌++◌, List, [], ◌∷◌, refl, sym, subst, inl, arith, rules}
+use Rattle.std.specs.Prelude.{pos}
+use Rattle.wasm_form.specs.Form.{small_parts, code_of}
+use Rattle.wasm_form.specs.Modules.{IsSpelled}
 use Rattle.wasm_form.specs.Small.{I32Const, I32Add, Drop}
+use Rattle.wasm_form.specs.declared.instr.Instr.{Instr}
+use Rattle.wasm_form.proofs.Octets.{octets_by}
+use Rattle.wasm_form.proofs.SmallSpelled.{line_is_spelled}
 use Rattle.fuel_stepper.proofs.tests.sum.Goals as goal
+
+pub small_module-requires : goal.small_module-requires
+small_module-requires c =
+    let code_is : c.push-5.new.self ≡ code_of (I32Const 1 ∷ I32Const 2 ∷ I32Add ∷ Drop ∷ []) = search rules in
+    record {
+      spelled = subst (λ (l : List Instr). IsSpelled (small_parts l)) (sym code_is)
+          (line_is_spelled (0x41 ∷ 0x01 ∷ 0x41 ∷ 0x02 ∷ 0x6A ∷ 0x1A ∷ []) (I32Const 1 ∷ I32Const 2 ∷ I32Add ∷ Drop ∷ [])
+          (octets_by (0x41 ∷ 0x01 ∷ 0x41 ∷ 0x02 ∷ 0x6A ∷ 0x1A ∷ []) refl) (omega arith) (
+            0x41 ∷ 0x01 ∷ [],
+            0x41 ∷ 0x02 ∷ 0x6A ∷ 0x1A ∷ [],
+            (0x01 ∷ [], pos 1, inl (omega arith, omega arith, refl), refl, refl),
+            (
+              0x41 ∷ 0x02 ∷ [],
+              0x6A ∷ 0x1A ∷ [],
+              (0x02 ∷ [], pos 2, inl (omega arith, omega arith, refl), refl, refl),
+              (0x6A ∷ [], 0x1A ∷ [], refl, (0x1A ∷ [], [], refl, refl, refl), refl),
+              refl,
+            ),
+            refl,
+          ) (1 ∷ [], refl, (2 ∷ 1 ∷ [], refl, (3 ∷ [], (1, 2, [], refl, refl), ([], (3, refl), refl)))));
+    }
 
 pub returns : goal.returns
 returns c = record {

@@ -1,5 +1,5 @@
 use Rattle.std.proofs.Common.{◌≡◌, ◌<◌, ◌^◌, take, sum_by}
-use Rattle.body_reader.proofs.body.are_few.Given as goal
+use Rattle.wasm_form.proofs.sizes.are_few.Given as goal
 
 abbrev pub invariant-loop-run : goal.invariant-loop-run
 invariant-loop-run l = record {
