@@ -1,7 +1,7 @@
 -- What stands for some stack, for the empty one, and for one with a top.
 use Rattle.std.specs.Prelude.{⊤, option_to_list, ◌==◌, ◌↔◌}
 use Rattle.std.proofs.lemmas.List.{reverse-append}
-use Rattle.std.proofs.Common.{◌≡◌, append_assoc, ℕ, suc, arith, List, [], ◌∷◌, ◌++◌, reverse, length, Bool, true, false, Option, Some, None, refl, sym, ap, subst, ◌∙◌}
+use Rattle.std.proofs.Common.{◌≡◌, append_assoc, append-nil, ℕ, suc, arith, List, [], ◌∷◌, ◌++◌, reverse, length, Bool, true, false, Option, Some, None, refl, sym, ap, subst, ◌∙◌}
 use Rattle.wasm_form.specs.declared.value_type.ValType.{ValType}
 use Rattle.wasm_form.specs.declared.value_type.ValType.TheVariants.{I32}
 use Rattle.wasm_form.specs.Typing.{arrow, Applies}
@@ -130,3 +130,40 @@ applied ts gs old mid new p q =
 -- what can't be taken can't be applied
 pub not_applied : (ts gs : List ValType) (old : Known) → IsStuck (TakesAll ts) old → IsStuck (Applies (arrow ts gs)) old
 not_applied ts gs old stuck before after h a = stuck before a.0 h a.1
+
+reversed_two : (a b s : List ValType) → reverse (a ++ b) ++ s ≡ reverse b ++ (reverse a ++ s)
+reversed_two a b s = ap (λ x. x ++ s) (reverse-append a b) ∙ append_assoc (reverse b) (reverse a) s
+
+-- the second ones are taken from above the first
+pub taken_two : (a b : List ValType) (old mid new : Known) → IsImage (TakesAll b) old mid → IsImage (TakesAll a) mid new → IsImage (TakesAll (a ++ b)) old new
+taken_two a b old mid new p q =
+    same_image (λ x z. (y : List ValType) × TakesAll b x y × TakesAll a y z) (TakesAll (a ++ b)) old new
+    (λ x z h. h.1 ∙ ap (λ y. reverse b ++ y) h.2 ∙ sym (reversed_two a b z))
+    (λ x z h. (reverse a ++ z, h ∙ reversed_two a b z, refl))
+    (both (TakesAll b) (TakesAll a) old mid new p q)
+
+pub applied_two : (a b gs : List ValType) (old mid low new : Known) → IsImage (TakesAll b) old mid → IsImage (TakesAll a) mid low → IsImage (GivesAll gs) low new → IsImage (Applies (arrow (a ++ b) gs)) old new
+applied_two a b gs old mid low new p q r = applied (a ++ b) gs old low new (taken_two a b old mid low p q) r
+
+pub not_applied_above : (a b gs : List ValType) (old : Known) → IsStuck (TakesAll b) old → IsStuck (Applies (arrow (a ++ b) gs)) old
+not_applied_above a b gs old stuck before after h s = stuck before (reverse a ++ s.0) h (s.1 ∙ reversed_two a b s.0)
+
+pub not_applied_below : (a b gs : List ValType) (old mid : Known) → IsImage (TakesAll b) old mid → IsStuck (TakesAll a) mid → IsStuck (Applies (arrow (a ++ b) gs)) old
+not_applied_below a b gs old mid p stuck before after h s =
+    stuck (reverse a ++ s.0) s.0 ((p (reverse a ++ s.0)).1 (before, h, s.1 ∙ reversed_two a b s.0)) refl
+
+-- what takes and gives nothing changes nothing
+pub nothing_applied : (k : Known) → IsImage (Applies (arrow [] [])) k k
+nothing_applied k =
+    same_image (λ before after. before ≡ after) (Applies (arrow [] [])) k k
+    (λ x y e. (x, refl, sym e)) (λ x y h. h.1 ∙ sym h.2) (same_known k)
+
+-- when these are taken nothing may be left just where they may be all
+pub taken_may_be : (ts : List ValType) (old new : Known) → IsImage (TakesAll ts) old new → Covers new [] ↔ Covers old (reverse ts)
+taken_may_be ts old new p = (
+  λ h. let b = (p []).0 h in subst (λ s. Covers old s) (b.2 ∙ append-nil (reverse ts)) b.1,
+  λ h. (p []).1 (reverse ts, h, sym (append-nil (reverse ts))),
+)
+
+pub not_taken : (ts : List ValType) (old : Known) → IsStuck (TakesAll ts) old → ¬ Covers old (reverse ts)
+not_taken ts old stuck h = stuck (reverse ts) [] h (sym (append-nil (reverse ts)))

@@ -1,3 +1,16 @@
 pub mod Covering
 pub mod Verdicts
-pub mod Operations
+pub mod Rules
+pub mod Codes
+pub mod Types
+pub mod Selecting
+pub mod Leaving
+pub mod Runs
+pub mod Rows
+pub mod Seen
+pub mod Remaining
+pub mod Advancing
+pub mod Bodies
+pub mod Lists
+pub mod Valid
+pub mod Making

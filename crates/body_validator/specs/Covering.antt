@@ -1,6 +1,9 @@
 -- Which stacks of value types a checker's stack stands for. The top stands first.
-use Rattle.std.specs.Prelude.{◌≡◌, ◌↔◌, ⊤, List, [], ◌∷◌, ◌++◌, reverse, drop, Bool, true, false, Option, Some, None}
+use Rattle.std.specs.Prelude.{◌≡◌, ◌↔◌, ℕ, ⊤, List, [], ◌∷◌, ◌++◌, reverse, drop, Bool, true, false, Option, Some, None, MatchOption}
 use Rattle.wasm_form.specs.declared.value_type.ValType.{ValType}
+use Rattle.wasm_form.specs.declared.value_type.ValType.TheVariants.{I32}
+use Rattle.wasm_form.specs.Context.{Context}
+use Rattle.wasm_form.specs.Typing.{arrow, Applies, TableLeaves, EndsIn}
 
 -- what is known of a stack: of each place its type, or nothing, and whether any others may lie below these
 pub record Known : Type 0 where
@@ -58,3 +61,22 @@ GivesAll ts before after = after ≡ reverse ts ++ before
 -- all that is below the topmost place
 abbrev pub below_top : Known → Known
 below_top k = known (drop 1 k.places) k.any
+
+-- the stacks of the old are those of the new with one more operand on top, of which this is known
+abbrev pub IsTop : Option ValType → (old new : Known) → Type 0
+IsTop place old new = (t : ValType) (stack : List ValType) → Covers old (t ∷ stack) ↔ (MayBe place t × Covers new stack)
+
+-- what is known of an operand of which both are known; none where they can't be true of one operand
+abbrev pub IsEither : (first second : Option ValType) → Option (Option ValType) → Type 0
+IsEither first second known =
+    MatchOption known ((t : ValType) → MayBe first t → ¬ MayBe second t)
+    (λ place. (t : ValType) → MayBe place t ↔ (MayBe first t × MayBe second t))
+
+-- two operands of one type and an i32 above them make one of that type
+abbrev pub Selects : (before after : List ValType) → Type 0
+Selects before after = (t : ValType) × Applies (arrow (t ∷ t ∷ I32 ∷ []) (t ∷ [])) before after
+
+-- a br_table with these labels leads on to any stack
+abbrev pub TableLeads : Context → (labels : List ℕ) → (last : ℕ) → (before after : List ValType) → Type 0
+TableLeads context labels last before after =
+    (needs : List ValType) × TableLeaves context labels last needs × EndsIn needs before

@@ -1,5 +1,5 @@
-ghost use Rattle.std.specs.Prelude.{◌≡◌, ◌↔◌, ◌∷◌, [], ◌++◌, List, true, false, Ok, OnOk, OnErr, ⊤};
-ghost use Rattle.body_validator.specs.Covering.{known, Covers, IsImage, IsStuck, Takes, TakesAny, TakesAll, Gives, GivesAll, below_top};
+ghost use Rattle.std.specs.Prelude.{◌≡◌, reverse, ◌↔◌, ◌∷◌, [], ◌++◌, List, true, false, Ok, None, OnOk, OnErr, IfSome, ⊤};
+ghost use Rattle.body_validator.specs.Covering.{known, Covers, IsImage, IsStuck, Takes, TakesAny, TakesAll, Gives, GivesAll, below_top, IsTop};
 ghost use Rattle.wasm_form.specs.Typing.{arrow, Applies};
 ghost use Rattle.wasm_form.specs.declared.value_type.ValType.{ValType};
 
@@ -127,6 +127,16 @@ impl OperandTypes {
         self.any = true;
     }
 
+    /// Whether these may be all the operands. What is known is of no further use then.
+    pub fn may_be(&mut self, operands: &[ValType]) -> bool
+        ensures { result ≡ true ↔ Covers self.old (reverse operands.now) }
+    {
+        if !self.pops(operands) {
+            return false;
+        }
+        self.may_be_empty()
+    }
+
     /// Whether no operand may be left.
     #[tactic(auto, using(crate::proofs::Covering::empty_covered))]
     pub fn may_be_empty(&self) -> bool
@@ -135,7 +145,44 @@ impl OperandTypes {
         self.places.is_empty()
     }
 
-    fn push_place(&mut self, place: Option<ValType>) -> Result<(), NoMemory>
+    /// What an instruction that takes the first operands, and the second ones above them, and gives
+    /// these makes of the operands; false where those that it takes can't be there.
+    pub fn apply_two(
+        &mut self,
+        first: &[ValType],
+        second: &[ValType],
+        given: &[ValType],
+    ) -> Result<bool, NoMemory>
+        ensures yes { result ≡ Ok true
+            → IsImage (Applies (arrow (first.now ++ second.now) given.now)) self.old self.new }
+        ensures no { result ≡ Ok false → IsStuck (Applies (arrow (first.now ++ second.now) given.now)) self.old }
+    {
+        let above = self.pops(second);
+        if !above {
+            return Ok(false);
+        }
+        let below = self.pops(first);
+        if !below {
+            return Ok(false);
+        }
+        self.pushes(given)?;
+        Ok(true)
+    }
+
+    /// Takes the topmost operand, and tells what is known of it; none where none can be there.
+    pub(crate) fn pop_place(&mut self) -> Option<Option<ValType>>
+        ensures some { IfSome result (λ place. IsTop place self.old self.new) }
+        ensures none { result ≡ None → IsStuck TakesAny self.old }
+    {
+        match self.places.pop() {
+            Some(place) => Some(place),
+            None if self.any => Some(None),
+            None => None,
+        }
+    }
+
+    /// Puts an operand on top of which this is known.
+    pub(crate) fn push_place(&mut self, place: Option<ValType>) -> Result<(), NoMemory>
         ensures ok { OnOk result (self.new ≡ known (place ∷ self.old.places) self.old.any) }
         ensures err { OnErr result (self.new ≡ self.old) }
     {

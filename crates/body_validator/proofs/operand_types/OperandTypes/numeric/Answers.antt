@@ -1,35 +1,20 @@
-use Rattle.std.proofs.Common.{sym, ◌∙◌}
-use Rattle.body_validator.proofs.Operations.{numeric_image, numeric_stuck, on_one, on_two}
+use Rattle.std.proofs.Common.{sym, ap, subst, ◌∙◌}
+use Rattle.wasm_form.specs.Typing.{listed_type, Applies}
+use Rattle.body_validator.specs.Rules.{rule_of}
+use Rattle.body_validator.specs.Covering.{IsImage, IsStuck}
+use Rattle.body_validator.proofs.Codes.{operation_kind}
+use Rattle.body_validator.proofs.Rules.{only_image, only_stuck}
+use Rattle.body_validator.proofs.Types.{operation_only}
 use Rattle.body_validator.proofs.operand_types.OperandTypes.numeric.Goals as goal
 
-pub returns-in-Some-Some-Some-clause-yes : goal.returns-in-Some-Some-Some-clause-yes
-returns-in-Some-Some-Some-clause-yes c r =
-    let row = c.requires.row in
-    let m = c.in-Some-Some-Some in
-    numeric_image c.args.row.now.code _ _ _ (sym row.kind ∙ c.requires.plain)
-    (on_two c.args.row.now.code _ _ _ _ _ _ _ _ _ row.first row.second row.result m.is-0 m.is-1 m.is-2 c.value_type.ensures c.value_type-in-Some-Some-Some.ensures c.value_type-in-Some-Some-Some-2.ensures)
-    (c.apply.ensures.yes r)
+pub returns-clause-yes : goal.returns-clause-yes
+returns-clause-yes c e context i same =
+    only_image context i (listed_type i.code) c.args.self.now c.listed.new.self
+    (operation_only context i (ap rule_of same ∙ c.requires.operation) (operation_kind i.code (ap rule_of same ∙ c.requires.operation)))
+    (subst (λ t. IsImage (Applies (listed_type t)) c.args.self.now c.listed.new.self) (sym same) (c.listed.ensures.yes e))
 
-pub returns-in-Some-Some-Some-clause-no : goal.returns-in-Some-Some-Some-clause-no
-returns-in-Some-Some-Some-clause-no c r =
-    let row = c.requires.row in
-    let m = c.in-Some-Some-Some in
-    numeric_stuck c.args.row.now.code _ _ (sym row.kind ∙ c.requires.plain)
-    (on_two c.args.row.now.code _ _ _ _ _ _ _ _ _ row.first row.second row.result m.is-0 m.is-1 m.is-2 c.value_type.ensures c.value_type-in-Some-Some-Some.ensures c.value_type-in-Some-Some-Some-2.ensures)
-    (c.apply.ensures.no r)
-
-pub returns-in-Some-None-Some-clause-yes : goal.returns-in-Some-None-Some-clause-yes
-returns-in-Some-None-Some-clause-yes c r =
-    let row = c.requires.row in
-    let m = c.in-Some-None-Some in
-    numeric_image c.args.row.now.code _ _ _ (sym row.kind ∙ c.requires.plain)
-    (on_one c.args.row.now.code _ _ _ _ _ _ _ row.first row.second row.result m.is-0 m.is-1 m.is-2 c.value_type-in-Some-None-Some.ensures c.value_type-in-Some-None-Some-2.ensures)
-    (c.apply-in-Some-None-Some.ensures.yes r)
-
-pub returns-in-Some-None-Some-clause-no : goal.returns-in-Some-None-Some-clause-no
-returns-in-Some-None-Some-clause-no c r =
-    let row = c.requires.row in
-    let m = c.in-Some-None-Some in
-    numeric_stuck c.args.row.now.code _ _ (sym row.kind ∙ c.requires.plain)
-    (on_one c.args.row.now.code _ _ _ _ _ _ _ row.first row.second row.result m.is-0 m.is-1 m.is-2 c.value_type-in-Some-None-Some.ensures c.value_type-in-Some-None-Some-2.ensures)
-    (c.apply-in-Some-None-Some.ensures.no r)
+pub returns-clause-no : goal.returns-clause-no
+returns-clause-no c e context i same =
+    only_stuck context i (listed_type i.code) c.args.self.now
+    (operation_only context i (ap rule_of same ∙ c.requires.operation) (operation_kind i.code (ap rule_of same ∙ c.requires.operation)))
+    (subst (λ t. IsStuck (Applies (listed_type t)) c.args.self.now) (sym same) (c.listed.ensures.no e))
