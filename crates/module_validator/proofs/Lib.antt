@@ -1,0 +1,9 @@
+pub mod Codes
+pub mod Lists
+pub mod Expressions
+pub mod FunctionsAlone
+pub mod Hosts
+pub mod Names
+pub mod Order
+pub mod Counts
+pub mod LocalsAt

@@ -1,0 +1,5 @@
+pub mod Host
+pub mod Answers
+pub mod Order
+pub mod Sizes
+pub mod Constants
