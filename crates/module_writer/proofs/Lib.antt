@@ -1,0 +1,12 @@
+pub mod Appending
+pub mod Items
+pub mod NumberBytes
+pub mod Pools
+pub mod TreeLines
+pub mod Sized
+pub mod Sectioned
+pub mod TableLabels
+pub mod LineBytes
+pub mod Written
+pub mod Few
+pub mod TableLengths

@@ -1,0 +1,4 @@
+pub mod Shortest
+pub mod Writing
+pub mod Lines
+pub mod SectionParts
