@@ -1,18 +1,40 @@
--- A file is not both a small module and of a form that is not built.
-use Rattle.std.proofs.Common.{◌≡◌, ℕ, List, Option, Some, None, ◌⊎◌, inl, inr, sym, ◌∙◌, subst, arith}
-use Rattle.outside.specs.Causes.{Rose, Stayed}
+-- A file is one of three: a small module, another module, or none.
+use Rattle.std.proofs.Common.{◌≡◌, ℕ, List, Option, Some, None, ◌⊎◌, inl, sym, ◌∙◌, subst}
 use Rattle.outside.specs.Files.{Contents}
 use Rattle.wasm_form.specs.Small.{SmallInstr}
-use Rattle.wasm_form.specs.Form.{Small}
-use Rattle.lunatic_cli.specs.File.{HasUnbuilt, HasSmall}
-use Rattle.lunatic_cli.specs.Ending.{Completes, Reports}
+use Rattle.wasm_form.specs.Form.{Small, module_of}
+use Rattle.wasm_form.specs.Modules.{Spells}
+use Rattle.wasm_form.proofs.SmallSpelled.{small_spelled}
+use Rattle.lunatic_cli.specs.File.{HasUnbuilt, HasMalformed, HasSmall}
+use Rattle.lunatic_cli.specs.Ending.{Completes}
+
+same_bytes : (a b : List ℕ) → Some a ≡ Some b → b ≡ a
+same_bytes a b e = cc
 
 not_both : (files : Contents) (name : List ℕ) (list : List SmallInstr) → HasUnbuilt (Some files) name → HasSmall (Some files) name list → ⊥
 not_both files name list unbuilt small =
-    let both : Some unbuilt.bytes ≡ Some small.bytes = sym unbuilt.is_content.told ∙ small.is_content.told in
-    let same : small.bytes ≡ unbuilt.bytes = cc in
-    let P : List ℕ → Type 0 = λ bytes. Small bytes list in
-    unbuilt.is_unbuilt list (subst P same small.is_small)
+    let same = same_bytes unbuilt.bytes small.bytes (sym unbuilt.is_content.told ∙ small.is_content.told) in
+    unbuilt.is_unbuilt.not_small list (subst (λ (bytes : List ℕ). Small bytes list) same small.is_small)
+
+small_is_formed : (files : Contents) (name : List ℕ) (list : List SmallInstr) → HasMalformed (Some files) name → HasSmall (Some files) name list → ⊥
+small_is_formed files name list malformed small =
+    let same = same_bytes malformed.bytes small.bytes (sym malformed.is_content.told ∙ small.is_content.told) in
+    malformed.is_malformed (module_of list) (subst (λ (bytes : List ℕ). Spells bytes (module_of list)) same (small_spelled small.bytes list small.is_small))
+
+-- a file that was refused as malformed
+pub malformed_completes : (content : Option Contents) (name : Option (List ℕ)) (n : List ℕ) (status : ℕ) → name ≡ Some n →
+    HasMalformed content n → status ≡ 3 → Completes content name status
+malformed_completes None None n status e malformed s = tt
+malformed_completes None (Some m) n status e malformed s = tt
+malformed_completes (Some files) None n status e malformed s = tt
+malformed_completes (Some files) (Some m) n status e malformed s =
+    let same : n ≡ m = cc in
+    let here = subst (λ (k : List ℕ). HasMalformed (Some files) k) same malformed in
+    record {
+      small = λ list small. absurd (small_is_formed files m list here small);
+      unbuilt = λ _. inl s;
+      malformed = λ _. inl s;
+    }
 
 -- a file that was refused as unbuilt
 pub unbuilt_completes : (content : Option Contents) (name : Option (List ℕ)) (n : List ℕ) (status : ℕ) → name ≡ Some n →
@@ -22,10 +44,11 @@ unbuilt_completes None (Some m) n status e unbuilt s = tt
 unbuilt_completes (Some files) None n status e unbuilt s = tt
 unbuilt_completes (Some files) (Some m) n status e unbuilt s =
     let same : n ≡ m = cc in
-    let P : List ℕ → Type 0 = λ k. HasUnbuilt (Some files) k in
+    let here = subst (λ (k : List ℕ). HasUnbuilt (Some files) k) same unbuilt in
     record {
-      small = λ list small. absurd (not_both files m list (subst P same unbuilt) small);
+      small = λ list small. absurd (not_both files m list here small);
       unbuilt = λ _. inl s;
+      malformed = λ _. inl s;
     }
 
 -- a small module that was run
@@ -36,15 +59,9 @@ small_completes None (Some m) n list status e small s = tt
 small_completes (Some files) None n list status e small s = tt
 small_completes (Some files) (Some m) n list status e small s =
     let same : n ≡ m = cc in
-    let P : List ℕ → Type 0 = λ k. HasSmall (Some files) k list in
+    let here = subst (λ (k : List ℕ). HasSmall (Some files) k list) same small in
     record {
       small = λ _ _. s;
-      unbuilt = λ unbuilt. absurd (not_both files m list unbuilt (subst P same small));
+      unbuilt = λ unbuilt. absurd (not_both files m list unbuilt here);
+      malformed = λ malformed. absurd (small_is_formed files m list malformed here);
     }
-
--- a run whose sink did not fail
-pub ran : (list : List SmallInstr) (old new : Option (List ℕ)) (status before now : ℕ) → Reports list old new status →
-    (status ≡ 5 → Rose before now) → Stayed before now → (status ≡ 0) ⊎ (status ≡ 8)
-ran list old new status before now (inl done) cause stayed = inl done.0
-ran list old new status before now (inr (inl unwritten)) cause stayed = absurd (omega (arith, cause unwritten.0, stayed))
-ran list old new status before now (inr (inr no_memory)) cause stayed = inr no_memory.0

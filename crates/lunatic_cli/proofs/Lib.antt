@@ -1,3 +1,12 @@
 pub mod Fronts
-pub mod Fuel
+pub mod GivenBack
+pub mod Rounds
+pub mod SomeExecuted
+pub mod Steps
+pub mod Clocks
+pub mod Outsides
+pub mod Births
+pub mod SmallStatus
+pub mod FirstNode
 pub mod Judgements
+pub mod Told

@@ -1,6 +1,8 @@
 -- The module file, and what it may be.
 use Rattle.std.specs.Prelude.{◌≡◌, ℕ, ◌<◌, ◌≤◌, List, length, Option, Some, None, IfSome}
 use Rattle.outside.specs.Files.{Contents}
+use Rattle.wasm_form.specs.declared.parts.Parts.{Parts}
+use Rattle.wasm_form.specs.Modules.{Spells}
 use Rattle.wasm_form.specs.Small.{SmallInstr}
 use Rattle.wasm_form.specs.Form.{Small}
 
@@ -18,11 +20,23 @@ abbrev pub IsUnreadable : Option (List ℕ) → Type 0
 IsUnreadable None = Unit {0}
 IsUnreadable (Some bytes) = file_limit < length bytes
 
--- no list of instructions makes the bytes a small module
-abbrev pub IsUnbuilt : List ℕ → Type 0
-IsUnbuilt bytes = (list : List SmallInstr) → ¬ Small bytes list
+-- the bytes spell no module (Core 1.0, 5.5)
+abbrev pub IsMalformed : List ℕ → Type 0
+IsMalformed bytes = (m : Parts) → ¬ Spells bytes m
 
--- the file has bytes that no list of instructions makes a small module
+-- the bytes spell a module, and no list of instructions makes them a small one
+pub record IsUnbuilt (bytes : List ℕ) : Type 0 where
+  pub parts : Parts
+  pub spelled : Spells bytes parts
+  pub not_small : (list : List SmallInstr) → ¬ Small bytes list
+
+-- the file has bytes that spell no module
+pub record HasMalformed (content : Option Contents) (name : List ℕ) : Type 0 where
+  pub bytes : List ℕ
+  pub is_content : IsContent content name bytes
+  pub is_malformed : IsMalformed bytes
+
+-- the file has bytes that spell a module, which is not a small one
 pub record HasUnbuilt (content : Option Contents) (name : List ℕ) : Type 0 where
   pub bytes : List ℕ
   pub is_content : IsContent content name bytes

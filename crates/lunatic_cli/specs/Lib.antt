@@ -3,4 +3,9 @@ pub mod Texts
 pub mod Writing
 pub mod File
 pub mod Judged
+pub mod Times
+pub mod Statuses
+pub mod Resting
+pub mod SmallRuns
+pub mod Headline
 pub mod Ending

@@ -1,9 +1,12 @@
-ghost use Rattle.std.specs.Prelude.{◌≡◌, ◌≢◌, ◌≤◌, ◌⊎◌, IfSome};
+ghost use Rattle.std.specs.Prelude.{◌≡◌, ◌≢◌, ◌≤◌, ◌⊎◌, List, IfSome};
 ghost use Rattle.outside.specs.Causes.{Rose, Stayed};
+ghost use Rattle.wasm_form.specs.Form.{Small};
+ghost use Rattle.wasm_form.specs.Small.{SmallInstr};
 ghost use Rattle.lunatic_cli.specs.File.{IsUnreadable};
 ghost use Rattle.lunatic_cli.specs.Judged.{IsJudged, IsVerdict};
 
-use module_reader::read_small;
+use body_reader::ReadFault;
+use module_reader::{read_module, read_small};
 use outside::{FileStep, Files};
 use std::alloc::Global;
 use wasm_form::Module;
@@ -15,6 +18,7 @@ const FILE_LIMIT: u64 = 16_777_216;
 #[derive(Drop)]
 pub enum Judged {
     Accepted(Module),
+    Malformed,
     Unbuilt,
     Unread,
     NoMemory,
@@ -46,7 +50,22 @@ fn judge_bytes(alloc: Global, bytes: &[u8]) -> Judged
 {
     match read_small(alloc, bytes) {
         Ok(Some(small)) => Judged::Accepted(small),
-        Ok(None) => Judged::Unbuilt,
+        Ok(None) => judge_other(alloc, bytes),
         Err(_) => Judged::NoMemory,
+    }
+}
+
+/// Judges the bytes of a file that is no small module.
+fn judge_other(alloc: Global, bytes: &[u8]) -> Judged
+    requires { (list : List SmallInstr) → ¬ Small bytes.now list }
+    ensures judged { IsVerdict bytes.now result }
+    ensures read { result ≢ Judged.Unread }
+{
+    match read_module(alloc, bytes) {
+        Ok(_) => Judged::Unbuilt,
+        Err(fault) => match fault {
+            ReadFault::Malformed => Judged::Malformed,
+            ReadFault::NoMemory => Judged::NoMemory,
+        },
     }
 }

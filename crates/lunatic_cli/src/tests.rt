@@ -1,6 +1,18 @@
-use crate::{Finish, Verdict, lunatic};
-use outside::{MemFiles, MemSink};
+ghost use Rattle.std.specs.Prelude.{◌≡◌, IsTrue, [], IfOk, is_some};
+ghost use Rattle.std.specs.List.{list_all};
+ghost use Rattle.host_port.specs.HostTable.{row_of};
+ghost use Rattle.journal.specs.Report.{IsReportable};
+
+use crate::{Verdict, lunatic, run_alone};
+use fuel_stepper::{SmallInstance, SmallModule};
+use host_port::{Ask, Bytes, Limits, Params, Start};
+use journal::{Birth, Ended, Entry, Halt, Journal, Side, report};
+use module_reader::read_small;
+use outside::{MemFiles, MemOutside, MemSink};
+use process_table::Node;
+use script_engine::{Script, ScriptEngine};
 use std::alloc::{AllocError, Global};
+use std::sync::Arc;
 use std::test::Fail;
 
 /// One function, which drops one constant.
@@ -39,6 +51,51 @@ fn store(alloc: Global, fails: Vec<u64>) -> Result<MemFiles, AllocError> {
     Ok(MemFiles::new(vec![in alloc; first, header, long]?, fails))
 }
 
+/// Sixteen outsides.
+fn sixteen(alloc: Global) -> Result<Vec<MemOutside>, AllocError> {
+    let mut outsides = Vec::new(alloc);
+    for _ in 0..16 {
+        outsides.push(MemOutside::new())?;
+    }
+    Ok(outsides)
+}
+
+/// The journal is that of the module `first`: process 1 is taken, executes two instructions, and returns.
+fn is_first_journal(journal: &Journal) -> bool {
+    let [
+        Entry::Take { worker: 0, pid: 1 },
+        Entry::Give {
+            worker: 0,
+            pid: 1,
+            calls,
+            fuel: 2,
+            halt: Halt::Done,
+            side: Side::Nothing,
+        },
+    ] = journal.entries()
+    else {
+        return false;
+    };
+    let [Birth::Born(start)] = journal.births() else {
+        return false;
+    };
+    let last = Ended {
+        pid: 1,
+        pages: 0,
+        mark: 0,
+    };
+    calls.as_slice().is_empty()
+        && (start.pid, start.module) == (1, 0)
+        && start.entry.as_slice() == b"_start".as_slice()
+        && start.params.is_empty()
+        && journal.ends() == [last].as_slice()
+}
+
+/// Nothing is in the journal.
+fn is_blank(journal: &Journal) -> bool {
+    journal.is_empty() && journal.births().is_empty() && journal.ends().is_empty()
+}
+
 #[test]
 fn files_are_judged_and_run(rt: HostRuntime) -> Result<(), Fail> {
     let alloc = rt.alloc();
@@ -57,9 +114,63 @@ fn files_are_judged_and_run(rt: HostRuntime) -> Result<(), Fail> {
     ] {
         let mut out = MemSink::new(alloc, 100, 7, Vec::new(alloc), Vec::new(alloc))?;
         let given = words(alloc, &["run", name])?;
-        let finish = lunatic(alloc, given.as_slice(), &mut files, &mut out);
-        assert_eq!(rt; finish, Finish { status, verdict }, "of {name}");
+        let mut outsides = sixteen(alloc)?;
+        assert_eq!(rt; outsides.len(), 16);
+        let finish = lunatic(alloc, given.as_slice(), &mut files, &mut out, &mut outsides);
+        assert_eq!(rt;
+            (finish.status, finish.verdict),
+            (status, verdict),
+            "of {name}"
+        );
         assert_eq!(rt; out.written(), text, "of {name}");
+        assert_eq!(rt; is_first_journal(&finish.journal), status == 0, "of {name}");
+        assert_eq!(rt; is_blank(&finish.journal), status != 0, "of {name}");
+    }
+    Ok(())
+}
+
+/// The status and the verdict for a file with these bytes.
+fn judged(alloc: Global, bytes: Vec<u8>) -> Result<(u8, Option<Verdict>), Fail> {
+    let file = (String::from_str(alloc, "file")?, bytes);
+    let mut files = MemFiles::new(vec![in alloc; file]?, Vec::new(alloc));
+    let mut out = MemSink::new(alloc, 100, 100, Vec::new(alloc), Vec::new(alloc))?;
+    let given = words(alloc, &["run", "file"])?;
+    let mut outsides = sixteen(alloc)?;
+    if outsides.len() < 16 {
+        return Err("sixteen outsides")?;
+    }
+    let finish = lunatic(alloc, given.as_slice(), &mut files, &mut out, &mut outsides);
+    Ok((finish.status, finish.verdict))
+}
+
+/// The module `first` with these bytes as the size of its code section.
+fn sized(alloc: Global, size: &[u8]) -> Result<Vec<u8>, AllocError> {
+    let mut bytes = FIRST[..31].to_vec(alloc)?;
+    bytes.extend_from_slice(size)?;
+    bytes.extend_from_slice(&FIRST[32..])?;
+    Ok(bytes)
+}
+
+#[test]
+fn what_spells_no_module_is_malformed(rt: HostRuntime) -> Result<(), Fail> {
+    let alloc = rt.alloc();
+    for length in 0..39usize {
+        let verdict = if length == 8 || length == 14 {
+            Verdict::Unbuilt
+        } else {
+            Verdict::Malformed
+        };
+        let front = FIRST[..length].to_vec(alloc)?;
+        assert_eq!(rt; judged(alloc, front)?, (3, Some(verdict)), "of {length}");
+    }
+    for (size, verdict) in [
+        ([0x87, 0x80, 0x80, 0x80, 0x00].as_slice(), Verdict::Unbuilt),
+        (
+            [0x87, 0x80, 0x80, 0x80, 0x80, 0x00].as_slice(),
+            Verdict::Malformed,
+        ),
+    ] {
+        assert_eq!(rt; judged(alloc, sized(alloc, size)?)?, (3, Some(verdict)));
     }
     Ok(())
 }
@@ -80,8 +191,11 @@ fn other_words_are_refused(rt: HostRuntime) -> Result<(), Fail> {
     for texts in cases {
         let mut out = MemSink::new(alloc, 100, 1, Vec::new(alloc), Vec::new(alloc))?;
         let given = words(alloc, texts)?;
-        let finish = lunatic(alloc, given.as_slice(), &mut files, &mut out);
+        let mut outsides = sixteen(alloc)?;
+        assert_eq!(rt; outsides.len(), 16);
+        let finish = lunatic(alloc, given.as_slice(), &mut files, &mut out, &mut outsides);
         assert_eq!(rt; (finish.status, finish.verdict), (2, None));
+        assert!(rt; is_blank(&finish.journal));
         assert_eq!(rt; out.written(), b"refused: words\n".as_slice());
     }
     Ok(())
@@ -98,9 +212,114 @@ fn a_failing_sink_gives_5_and_leaves_a_refusal(rt: HostRuntime) -> Result<(), Fa
     ] {
         let mut out = MemSink::new(alloc, 100, 100, fails, zeros)?;
         let given = words(alloc, &["run", name])?;
-        let finish = lunatic(alloc, given.as_slice(), &mut files, &mut out);
+        let mut outsides = sixteen(alloc)?;
+        assert_eq!(rt; outsides.len(), 16);
+        let finish = lunatic(alloc, given.as_slice(), &mut files, &mut out, &mut outsides);
         assert_eq!(rt; finish.status, status, "of {name}");
+        assert_eq!(rt; is_first_journal(&finish.journal), status == 5, "of {name}");
         assert_eq!(rt; out.written(), b"".as_slice(), "of {name}");
     }
+    Ok(())
+}
+
+/// How process 1 starts, with this fuel.
+fn first_start(alloc: Global, fuel: u64) -> Result<Start, AllocError>
+    ensures { IfOk result (λ start. (start.pid ≡ 1) × (start.module ≡ 0)) }
+{
+    Ok(Start {
+        pid: 1,
+        module: 0,
+        entry: Bytes::from_vec(b"_start".to_vec(alloc)?),
+        params: Params::new(alloc),
+        limits: Limits::new(64, fuel, 1000),
+    })
+}
+
+/// An ask of this call with these first arguments.
+fn ask(call: u8, first: u64, second: u64, third: u64) -> Ask
+    ensures { result.call ≡ call }
+{
+    Ask {
+        call,
+        args: [first, second, third, 0, 0, 0, 0, 0],
+    }
+}
+
+/// A node whose process 1 asks these, and returns.
+fn script_node(alloc: Global, asks: Vec<Ask>) -> Result<Node<ScriptEngine, MemOutside>, Fail>
+    requires { IsTrue (list_all (λ ask. is_some (row_of ask.call)) asks.items) }
+    ensures { IfOk result (λ node. node.book.entries ≡ []) }
+{
+    let mut programs = Vec::new(alloc);
+    programs.push(Arc::new(alloc, Script { asks, end: None })?)?;
+    match Node::new(alloc, programs, first_start(alloc, 1000)?, 10, 100) {
+        Ok(node) => Ok(node),
+        Err(_) => Err("start")?,
+    }
+}
+
+/// The text of the run of a script by one worker.
+fn script_text(alloc: Global, asks: Vec<Ask>) -> Result<Vec<u8>, Fail>
+    requires { IsTrue (list_all (λ ask. is_some (row_of ask.call)) asks.items) }
+{
+    let mut outside = MemOutside::new();
+    let node = script_node(alloc, asks)?;
+    let journal = run_alone(alloc, node, &mut outside);
+    Ok(text_of(alloc, &journal)?)
+}
+
+fn text_of(alloc: Global, journal: &Journal) -> Result<Vec<u8>, Fail>
+    requires { IsReportable journal.now }
+{
+    Ok(report(alloc, journal).ok().ok_or("report")?)
+}
+
+#[test]
+fn one_worker_runs_a_script_to_its_end(rt: HostRuntime) -> Result<(), Fail> {
+    let alloc = rt.alloc();
+    let asks = vec![in alloc;
+        ask(10, 0, 0, 0),
+        ask(0, 5, 0, 0),
+        ask(8, 1, 0, 0),
+        ask(9, 0, 0, u64::MAX),
+    ]?;
+    let text = script_text(alloc, asks)?;
+    assert_eq!(rt;
+        text.as_slice(),
+        b"process 1 done fuel 4 pages 0 mark 0\ntotal processes 1 messages 1 streams 0\n".as_slice()
+    );
+    let waits = vec![in alloc; ask(9, 0, 0, u64::MAX)]?;
+    let text = script_text(alloc, waits)?;
+    assert_eq!(rt;
+        text.as_slice(),
+        b"process 1 stalled fuel 1 pages 0 mark 0\ntotal processes 1 messages 0 streams 0\n".as_slice()
+    );
+    Ok(())
+}
+
+#[test]
+fn one_worker_runs_a_module_to_its_fuel(rt: HostRuntime) -> Result<(), Fail> {
+    let alloc = rt.alloc();
+    let Ok(Some(module)) = read_small(alloc, FIRST.as_slice()) else {
+        return Err("the module")?;
+    };
+    let mut programs = Vec::new(alloc);
+    programs.push(Arc::new(alloc, SmallModule::of(module))?)?;
+    let Ok(node) = Node::<SmallInstance, MemOutside>::new(
+        alloc,
+        programs,
+        first_start(alloc, 1)?,
+        10,
+        100,
+    ) else {
+        return Err("start")?;
+    };
+    let mut outside = MemOutside::new();
+    let journal = run_alone(alloc, node, &mut outside);
+    let text = text_of(alloc, &journal)?;
+    assert_eq!(rt;
+        text.as_slice(),
+        b"process 1 spent fuel fuel 1 pages 0 mark 0\ntotal processes 1 messages 0 streams 0\n".as_slice()
+    );
     Ok(())
 }

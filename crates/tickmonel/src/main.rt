@@ -1,17 +1,22 @@
 //! The program `tickmonel`: makes the real store of files and standard output, calls `lunatic`, and ends with the
 //! status that it answers.
 //!
+//! Each of the sixteen workers that a run may have gets an outside of its own, in memory: no module reaches one yet.
 //! What the program does is `lunatic`'s contract, in the crate `lunatic_cli`. What real files and standard output hold
 //! is told by no clause.
 #![tactic(auto)]
+
+ghost use Rattle.std.specs.Prelude.{◌≡◌, IfOk, vec_len};
 
 mod real_files;
 mod real_out;
 
 use lunatic_cli::lunatic;
 use memory_refusal::NoMemory;
+use outside::MemOutside;
 use real_files::RealFiles;
 use real_out::RealOut;
+use std::alloc::Global;
 use std::env;
 use std::io::{self, ErrorKind};
 use std::process::ExitCode;
@@ -20,14 +25,37 @@ use std::rt::Env;
 /// The status for want of memory.
 const MEMORY: u8 = 8;
 
+/// The most workers of a run.
+const WORKERS: u64 = 16;
+
 fn main(rt: HostRuntime) -> ExitCode {
     let Ok(words) = given_words(&rt) else {
         return ExitCode::from(MEMORY);
     };
+    let Ok(mut outsides) = all_outsides(rt.alloc()) else {
+        return ExitCode::from(MEMORY);
+    };
     let mut files = RealFiles::new(&rt);
     let mut out = RealOut::new(io::writer(&rt));
-    let finish = lunatic(rt.alloc(), words.as_slice(), &mut files, &mut out);
+    let finish = lunatic(
+        rt.alloc(),
+        words.as_slice(),
+        &mut files,
+        &mut out,
+        &mut outsides,
+    );
     ExitCode::from(finish.status)
+}
+
+/// An outside for each worker.
+fn all_outsides(alloc: Global) -> Result<Vec<MemOutside>, NoMemory>
+    ensures { IfOk result (λ outsides. vec_len outsides ≡ 16) }
+{
+    let mut outsides = Vec::new(alloc);
+    for _worker in 0..WORKERS {
+        outsides.push(MemOutside::new())?;
+    }
+    Ok(outsides)
 }
 
 /// The words after the program's name. Where they are no text there are none, and so they are refused.

@@ -1,15 +1,43 @@
-use Rattle.std.proofs.Common.{◌≡◌, length, ap, ◌∙◌, inl, inr, subst, List, ℕ}
-use Rattle.lunatic_cli.specs.Texts.{report}
-use Rattle.lunatic_cli.specs.Writing.{AppendsAll, AppendsFront}
+use Rattle.std.proofs.Common.{List, map, subst, inl}
+use Rattle.journal.specs.LifeLaws.{IsRun-reportable}
+use Rattle.journal.specs.Lives.{Setting}
+use Rattle.journal.specs.Runs.{told}
+use Rattle.wasm_form.specs.Small.{SmallInstr}
+use Rattle.lunatic_cli.specs.Headline.{OneJournal}
+use Rattle.lunatic_cli.specs.Statuses.{EndsByLast}
+use Rattle.lunatic_cli.proofs.FirstNode.{setting-small}
+use Rattle.lunatic_cli.proofs.Outsides.{falls-refl, goes-refl}
+use Rattle.lunatic_cli.proofs.SmallStatus.{done-or-memory}
 use Rattle.lunatic_cli.proofs.run.run.Goals as goal
-use Rattle.lunatic_cli.proofs.run.run.Goals.{in-Ok-write_all, in-Err}
 
-pub returns-clause-reports : goal.returns-clause-reports
-returns-clause-reports g c list e =
-    let text_is : c.as_bytes.result.now ≡ report (length list) = c.as_bytes.ensures.value ∙ c.in-Ok-report.ensures ∙ ap report (c.in-Ok.ensures list e) in
-    let All : List ℕ → Type 0 = λ text. AppendsAll (g.K.Sink.written c.args.out.now) (g.K.Sink.written c.write_all.new.out) text in
-    let Front : List ℕ → Type 0 = λ text. AppendsFront (g.K.Sink.written c.args.out.now) (g.K.Sink.written c.write_all.new.out) text in
-    elim c.match-write_all.branch [
-      | in-Ok-write_all w ↦ inl (w.status-is, subst All text_is w.in-Ok-write_all.ensures.all)
-      | in-Err w ↦ inr (inl (w.status-is, subst Front text_is c.write_all.ensures.front))
-    ]
+pub returns-in_default-clause-clocks : goal.returns-in_default-clause-clocks
+returns-in_default-clause-clocks g c = goes-refl (map g.O.Outside.clock c.args.outsides.now.items)
+
+pub returns-in_default-clause-faults : goal.returns-in_default-clause-faults
+returns-in_default-clause-faults g c = falls-refl (map g.O.Outside.faults c.args.outsides.now.items)
+
+pub returns-in_default-clause-waits : goal.returns-in_default-clause-waits
+returns-in_default-clause-waits g c = falls-refl (map g.O.Outside.waits c.args.outsides.now.items)
+
+pub returns-in_default-clause-rests : goal.returns-in_default-clause-rests
+returns-in_default-clause-rests g c = falls-refl (map g.O.Outside.rests c.args.outsides.now.items)
+
+pub write_report-status-requires-clause-reportable : goal.write_report-status-requires-clause-reportable
+write_report-status-requires-clause-reportable g c =
+    IsRun-reportable _ c.run_first-journal.result c.run_first-journal.ensures.journal.journal_is_run
+
+pub returns-clause-runs : goal.returns-clause-runs
+returns-clause-runs g c list is =
+    let before = map g.O.Outside.clock c.args.outsides.now.items in
+    let after = map g.O.Outside.clock c.run_first-journal.new.outsides.items in
+    inl (record {
+      journal = subst (λ (s : Setting (List SmallInstr)). OneJournal s before after c.run_first-journal.result)
+          (setting-small c.args.«module» c.in-Ok.node list c.in-Ok.ensures is) c.run_first-journal.ensures.journal;
+      writes = c.write_report-status.ensures.writes;
+    })
+
+pub returns-clause-done : goal.returns-clause-done
+returns-clause-done g c list is short stayed =
+    let ended = subst (λ (s : Setting (List SmallInstr)). EndsByLast s (told c.run_first-journal.result) c.run_first-journal.result.entries)
+    (setting-small c.args.«module» c.in-Ok.node list c.in-Ok.ensures is) c.run_first-journal.ensures.ended in
+    done-or-memory list c.run_first-journal.result c.write_report-status.result _ _ _ _ short ended c.write_report-status.ensures.writes c.write_report-status.ensures.unwritten stayed

@@ -1,0 +1,87 @@
+-- Clocks, and the times that entries record.
+use Rattle.std.proofs.Common.{◌≡◌, ◌≤◌, ℕ, List, [], ◌∷◌, ◌++◌, All, Option, Some, None, get_or, refl, sym, ◌∙◌, ap, arith, append_assoc, append-nil, ◌⊎◌, inl, inr}
+use Rattle.std.proofs.lemmas.List.Elements.{All-nil, All-cons, All-append}
+use Rattle.std.proofs.Math.Logic.{∥∥₁_elim}
+use Rattle.std.proofs.Math.Nat.{ℕ_set}
+use Rattle.outside.specs.Makes.{GoesNotBack}
+use Rattle.journal.specs.declared.entry.Entry.{Entry}
+use Rattle.journal.specs.declared.entry.Side.{Side}
+use Rattle.journal.specs.declared.entry.Side.TheVariants as SideIs
+use Rattle.journal.specs.declared.halt.Halt.{Halt}
+use Rattle.journal.specs.declared.halt.Halt.TheVariants as HaltIs
+use Rattle.process_turn.specs.Brings.{IsSideOf}
+use Rattle.lunatic_cli.specs.Times.{times_of, time_of, time_beside, AreBetween}
+
+pub not-back-refl : (clock : Option ℕ) → GoesNotBack clock clock
+not-back-refl None = refl
+not-back-refl (Some time) = omega arith
+
+pub not-back-then : (a b c : Option ℕ) → GoesNotBack a b → GoesNotBack b c → GoesNotBack a c
+not-back-then None None c one two = two
+not-back-then None (Some x) c one two = absurd (let e : Some x ≡ None = one in cc)
+not-back-then (Some t) None c one two = absurd one
+not-back-then (Some t) (Some x) None one two = absurd two
+not-back-then (Some t) (Some x) (Some y) one two = omega arith
+
+pub times-append : (es more : List Entry) → times_of (es ++ more) ≡ times_of es ++ times_of more
+times-append [] more = refl
+times-append (e ∷ es) more = ap (λ (ts : List ℕ). time_of e ++ ts) (times-append es more) ∙ sym (append_assoc (time_of e) (times_of es) (times_of more))
+
+pub between-none : (before after : Option ℕ) → AreBetween before after []
+between-none None after = tt
+between-none (Some from) None = tt
+between-none (Some from) (Some to) = All-nil (λ time. (from ≤ time) × (time ≤ to))
+
+all-within : (early from to late : ℕ) (ts : List ℕ) → early ≤ from → to ≤ late → All (λ time. (from ≤ time) × (time ≤ to)) ts → All (λ time. (early ≤ time) × (time ≤ late)) ts
+all-within early from to late ts sooner later h k d below =
+    let x = h k d below in
+    let low : from ≤ get_or ts k d = x.0 in
+    let high : get_or ts k d ≤ to = x.1 in
+    (omega arith, omega arith)
+
+-- times of an earlier and a later span
+pub between-both : (a b c : Option ℕ) (xs ys : List ℕ) → GoesNotBack a b → GoesNotBack b c → AreBetween a b xs → AreBetween b c ys → AreBetween a c (xs ++ ys)
+between-both None b c xs ys one two first second = tt
+between-both (Some from) None c xs ys one two first second = absurd one
+between-both (Some from) (Some mid) None xs ys one two first second = absurd two
+between-both (Some from) (Some mid) (Some to) xs ys one two first second =
+    All-append (λ time. (from ≤ time) × (time ≤ to)) xs ys
+    (all-within from from mid to xs (omega arith) two first) (all-within from mid to to ys one (omega arith) second)
+
+is-told : (clock : Option ℕ) (halt : Halt) (side : Side) (now time : ℕ) → clock ≡ Some time → IsSideOf clock halt side → (SideIs.Clock now ≡ side) ⊎ (SideIs.Clock now ≡ SideIs.NoMemory) → now ≡ time
+is-told clock halt side now time told is (inr e) = absurd (cc)
+is-told clock halt side now time told is (inl e) = by halt (rw (told, ← e) at is)
+  where
+    by : (h : Halt) → IsSideOf (Some time) h (SideIs.Clock now) → now ≡ time
+    by HaltIs.Slice i = absurd (let x = i in cc)
+    by (HaltIs.Asks request) i = i.1
+    by HaltIs.Done i = absurd (let x = i in cc)
+    by (HaltIs.Trap trap) i = absurd (let x = i in cc)
+    by (HaltIs.Spent spent) i = absurd (let x = i in cc)
+    by (HaltIs.Host fault request) i = absurd (let x = i in cc)
+    by HaltIs.NoMemory i = absurd (let x = i in cc)
+
+-- what was recorded with a Give lies between, where the clock stayed from the process's taking on
+pub between-given : (before clock : Option ℕ) (halt : Halt) (side recorded : Side) → GoesNotBack before clock → IsSideOf clock halt side → ∥ (recorded ≡ side) ⊎ (recorded ≡ SideIs.NoMemory) ∥₁ → AreBetween before clock (time_beside recorded)
+between-given before clock halt side SideIs.Nothing later is from = between-none before clock
+between-given before clock halt side SideIs.NoMemory later is from = between-none before clock
+between-given None clock halt side (SideIs.Clock now) later is from = tt
+between-given (Some early) None halt side (SideIs.Clock now) later is from = tt
+between-given (Some early) (Some time) halt side (SideIs.Clock now) later is from =
+    let same : now ≡ time = ∥∥₁_elim from (ℕ_set now time) (is-told (Some time) halt side now time refl is) in
+    All-cons (λ at. (early ≤ at) × (at ≤ time)) now [] (omega arith, omega arith) (All-nil (λ at. (early ≤ at) × (at ≤ time)))
+
+-- an entry that records no time, or none
+pub times-ended : (before kept after more : List Entry) (entry : Entry) → kept ≡ before → after ≡ kept ++ more → (more ≡ []) ⊎ (more ≡ entry ∷ []) → time_of entry ≡ [] → times_of after ≡ times_of before ++ []
+times-ended before kept after more entry same is one none =
+    ap times_of is ∙ times-append kept more ∙ ap (λ (ts : List ℕ). times_of kept ++ ts) (by one) ∙ ap (λ (es : List Entry). times_of es ++ []) same
+  where
+    by : (more ≡ []) ⊎ (more ≡ entry ∷ []) → times_of more ≡ []
+    by (inl e) = ap times_of e
+    by (inr e) = ap times_of e ∙ ap (λ (ts : List ℕ). ts ++ []) none
+
+-- a Take and a Give
+pub times-round : (before kept mid after : List Entry) (take give : Entry) → kept ≡ before → mid ≡ kept ++ take ∷ [] → after ≡ mid ++ give ∷ [] → time_of take ≡ [] → times_of after ≡ times_of before ++ time_of give
+times-round before kept mid after take give same took gave none =
+    let one : times_of mid ≡ times_of before = times-ended before kept mid (take ∷ []) take same took (inr refl) none ∙ append-nil (times_of before) in
+    ap times_of gave ∙ times-append mid (give ∷ []) ∙ ap (λ (ts : List ℕ). ts ++ (time_of give ++ [])) one ∙ ap (λ (ts : List ℕ). times_of before ++ ts) (append-nil (time_of give))

@@ -1,0 +1,44 @@
+-- What becomes of a list of outsides where the first of them is used.
+use Rattle.std.proofs.Common.{◌≡◌, ◌<◌, ◌≤◌, ℕ, List, [], ◌∷◌, length, map, get_or, slice_set, All, Any, IsSome, IsSomeAnd, Option, Some, None, refl, subst, arith}
+use Rattle.outside.specs.Makes.{GoesNotBack}
+use Rattle.lunatic_cli.specs.Times.{AreBetween, IsWithin, AllAreWithin, NoneFalls, NoneGoesBack}
+use Rattle.lunatic_cli.proofs.Clocks.{not-back-refl}
+
+pub falls-refl : (xs : List ℕ) → NoneFalls xs xs
+falls-refl [] = tt
+falls-refl (x ∷ xs) = (omega arith, falls-refl xs)
+
+pub goes-refl : (xs : List (Option ℕ)) → NoneGoesBack xs xs
+goes-refl [] = tt
+goes-refl (x ∷ xs) = (not-back-refl x, goes-refl xs)
+
+pub none-falls : {X : Type 0} (count : X → ℕ) (items : List X) (before after : X) → 0 < length items → before ≡ get_or items 0 before → count before ≤ count after →
+    NoneFalls (map count items) (map count (slice_set items 0 after))
+none-falls count [] before after some is later = absurd (omega arith)
+none-falls count (x ∷ xs) before after some is later = (subst (λ y. count y ≤ count after) is later, falls-refl (map count xs))
+
+pub none-goes-back : {X : Type 0} (clock : X → Option ℕ) (items : List X) (before after : X) → 0 < length items → before ≡ get_or items 0 before → GoesNotBack (clock before) (clock after) →
+    NoneGoesBack (map clock items) (map clock (slice_set items 0 after))
+none-goes-back clock [] before after some is later = absurd (omega arith)
+none-goes-back clock (x ∷ xs) before after some is later = (subst (λ y. GoesNotBack (clock y) (clock after)) is later, goes-refl (map clock xs))
+
+-- the first of some that holds
+any-first : {X : Type 0} (Q : X → Type 0) (x : X) (xs : List X) → Q x → Any Q (x ∷ xs)
+any-first Q x xs h = (0, x, omega arith, refl, h)
+
+within : (before after : Option ℕ) (earlier later : List (Option ℕ)) (times : List ℕ) → IsSome before → IsSome after → AreBetween before after times → All (IsWithin (before ∷ earlier) (after ∷ later)) times
+within None after earlier later times told then between = absurd (cc)
+within (Some from) None earlier later times told then between = absurd (cc)
+within (Some from) (Some to) earlier later times told then between = λ k d below.
+    let h = between k d below in
+    record {
+      from = any-first (λ clock. IsSomeAnd clock (λ at. at ≤ get_or times k d)) (Some from) earlier h.0;
+      to = any-first (λ clock. IsSomeAnd clock (λ at. get_or times k d ≤ at)) (Some to) later h.1;
+    }
+
+pub all-within-first : {X : Type 0} (clock : X → Option ℕ) (items : List X) (before after : X) (times : List ℕ) → 0 < length items → before ≡ get_or items 0 before → AreBetween (clock before) (clock after) times →
+    AllAreWithin (map clock items) (map clock (slice_set items 0 after)) times
+all-within-first clock [] before after times some is between told then = absurd (omega arith)
+all-within-first clock (x ∷ xs) before after times some is between told then =
+    within (clock x) (clock after) (map clock xs) (map clock xs) times (told 0 None (omega arith)) (then 0 None (omega arith))
+    (subst (λ y. AreBetween (clock y) (clock after) times) is between)

@@ -1,0 +1,5 @@
+use Rattle.journal.specs.LifeLaws.{IsRun-reportable}
+use Rattle.lunatic_cli.proofs.tests.script_text.Goals as goal
+
+pub text_of-requires : goal.text_of-requires
+text_of-requires c = IsRun-reportable _ c.run_alone-journal.result c.run_alone-journal.ensures.run
