@@ -58,7 +58,9 @@ impl<'m> ModuleContext<'m> {
     }
 
     /// Whether the module's own function at this place is typed, where each type has at most one
-    /// result.
+    /// result. A body with a float instruction isn't, nor is one that isn't there.
+    ///
+    /// `NoMemory` comes for want of memory alone.
     pub fn check(&self, alloc: Global, place: usize) -> Result<bool, NoMemory>
         requires { HasSingleResults self.now }
         ensures yes { result ≡ Ok true → IsValidFunction self.now place }
@@ -144,7 +146,10 @@ fn all_globals(alloc: Global, module: &Module) -> Result<Vec<GlobalType>, NoMemo
 }
 
 /// Whether the module's own function at this place is typed, where each type has at most one
-/// result. For many functions of a module make a [`ModuleContext`].
+/// result. A body with a float instruction isn't, nor is one that isn't there. For many functions of a
+/// module make a [`ModuleContext`].
+///
+/// `NoMemory` comes for want of memory alone.
 pub fn check_body(alloc: Global, module: &Module, place: usize) -> Result<bool, NoMemory>
     requires { HasSingleResults «module».now }
     ensures yes { result ≡ Ok true → IsValidFunction «module».now place }
