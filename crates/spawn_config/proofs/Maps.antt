@@ -5,7 +5,8 @@ use Rattle.std.specs.Cmp.{nat_cmp_total, eq_by_cmp_equiv}
 use Rattle.std.specs.Map.{lookup}
 use Rattle.std.specs.BTreeMap as tree
 use Rattle.std.specs.FinMap.Entries.{find}
-use Rattle.std.specs.FinMap.{FinMap, get, insert, remove, from_entries, get-from_entries, get-insert, get-remove, same_map, nat_cmp-IsAntisymmetric}
+use Rattle.std.specs.FinMap.{FinMap, get, insert, remove, from_entries, get-from_entries, get-insert, get-remove}
+use Rattle.std.specs.FinMap.{same_map, nat_cmp-IsAntisymmetric}
 
 module _ {X : Type 0} where
   abbrev pub map_of : tree.BTreeMap ℕ X → FinMap nat_cmp X
@@ -19,7 +20,8 @@ module _ {X : Type 0} where
   pub get-map_of : (m : tree.BTreeMap ℕ X) (q : ℕ) → get (map_of m) q ≡ tree.get nat_cmp m q
   get-map_of m q = get-from_entries nat_cmp_total m.entries q ∙ found q m.entries
 
-  pub insert_is : (m n : tree.BTreeMap ℕ X) (k : ℕ) (v : X) → tree.Updates nat_cmp m n k (Some v) → map_of n ≡ insert (map_of m) k v
+  pub insert_is : (m n : tree.BTreeMap ℕ X) (k : ℕ) (v : X) → tree.Updates nat_cmp m n k (Some v)
+      → map_of n ≡ insert (map_of m) k v
   insert_is m n k v updates = same_map nat_cmp_total nat_cmp-IsAntisymmetric _ _ (λ q.
       get-map_of n q
       ∙ updates.0 q
@@ -36,5 +38,6 @@ module _ {X : Type 0} where
       ∙ sym (get-remove nat_cmp_total (map_of m) k q))
 
   -- a number from which on nothing is held is not in the map
-  pub unused : (m : tree.BTreeMap ℕ X) (next : ℕ) → ((id : ℕ) → next ≤ id → tree.get nat_cmp m id ≡ None) → get (map_of m) next ≡ None
+  pub unused : (m : tree.BTreeMap ℕ X) (next : ℕ) → ((id : ℕ) → next ≤ id → tree.get nat_cmp m id ≡ None)
+      → get (map_of m) next ≡ None
   unused m next none = get-map_of m next ∙ none next (omega arith)

@@ -1,14 +1,19 @@
-use Rattle.std.specs.Prelude.{◌≡◌, ℕ, List, ◌∷◌, ◌++◌, All, replicate}
+use Rattle.std.specs.Prelude.{◌≡◌, ℕ, ◌<◌, ◌^◌, List, ◌∷◌, ◌++◌, All, replicate}
 use Rattle.std.specs.List.{flat_map}
 use Rattle.std.specs.Int.{w32, w64, to_le_bytes}
 use Rattle.wasm_ops.specs.declared.num.Num.{Num}
 use Rattle.wasm_ops.specs.declared.num.Num.TheVariants.{I32, I64}
-use Rattle.host_port.specs.TypedValue.{TypedValue, IsInRange}
+use Rattle.host_port.specs.TypedValue.{TypedValue}
 
 -- Core 1.0, 5.3.1, value types: the byte of a type
 abbrev pub type_byte : Num → ℕ
 type_byte I32 = 0x7F
 type_byte I64 = 0x7E
+
+-- Core 1.0, 4.2.1, values: a value of i32 is below 2^32, and one of i64 below 2^64
+abbrev pub IsValueOf : Num → ℕ → Type 0
+IsValueOf I32 value = value < 2 ^ 32
+IsValueOf I64 value = value < 2 ^ 64
 
 -- sixteen little-endian bytes, of which those past the first four or eight are zero
 abbrev pub value_bytes : Num → ℕ → List ℕ
@@ -23,7 +28,7 @@ param_bytes param = type_byte param.num ∷ value_bytes param.num param.value
 abbrev pub spelling : List TypedValue → List ℕ
 spelling params = flat_map param_bytes params
 
--- the bytes spell these parameters, each of which its type can hold
+-- the bytes spell these parameters, each of them a value of its type
 pub record Spells (bytes : List ℕ) (params : List TypedValue) : Type 0 where
   pub spelled : bytes ≡ spelling params
-  pub in_range : All (λ param. IsInRange param.num param.value) params
+  pub values : All (λ param. IsValueOf param.num param.value) params

@@ -44,7 +44,9 @@ impl Configs {
     }
 
     /// Makes a config with these limits, and answers its number, which no config had before.
-    /// Refused for want of memory alone, and then the configs are as they were.
+    ///
+    /// `NoMemory` comes for want of memory, and where the number would be 2^64 - 1, after which
+    /// there is none. Then the configs are as they were.
     pub fn create(&mut self, own: Limits) -> Result<u64, NoMemory>
         ensures number { IfOk result (λ id. id ≡ self.old.next) }
         ensures unused { map.get self.old.limits self.old.next ≡ None }

@@ -5,11 +5,13 @@
 #![tactic(auto)]
 
 mod configs;
+mod laws;
 mod limits;
 mod params;
 #[cfg(test)]
 mod tests;
 
 pub use configs::Configs;
+pub use laws::one_spelling;
 pub use limits::lower;
 pub use params::{ParamFault, decode_params};

@@ -1,6 +1,6 @@
 ghost use Rattle.std.specs.Prelude.{◌≡◌, ◌≢◌, ◌↔◌, ℕ, List, length, All, IsTrue, IfOk, MatchOption};
-ghost use Rattle.host_port.specs.TypedValue.{TypedValue, IsInRange};
-ghost use Rattle.spawn_config.specs.Spelling.{Spells, spelling, param_bytes};
+ghost use Rattle.host_port.specs.TypedValue.{TypedValue};
+ghost use Rattle.spawn_config.specs.Spelling.{Spells, IsValueOf, spelling, param_bytes};
 
 use host_port::{Param, Params};
 use memory_refusal::NoMemory;
@@ -61,7 +61,8 @@ pub fn decode_params(alloc: Global, bytes: &[u8]) -> Result<Params, ParamFault>
 /// The parameter that seventeen bytes spell, if they spell one.
 fn decode_param(bytes: &[u8]) -> Option<Param>
     requires { length bytes.now ≡ 17 }
-    ensures { MatchOption result ((param : TypedValue) → bytes.now ≢ param_bytes param) (λ param. (bytes.now ≡ param_bytes param) × IsInRange param.num param.value) }
+    ensures { MatchOption result ((param : TypedValue) → bytes.now ≢ param_bytes param)
+        (λ param. (bytes.now ≡ param_bytes param) × IsValueOf param.num param.value) }
 {
     match bytes {
         [0x7F, a, b, c, d, zeros @ ..] => {

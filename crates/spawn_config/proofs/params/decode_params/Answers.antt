@@ -6,7 +6,8 @@ use Rattle.spawn_config.proofs.params.decode_params.Goals as goal
 pub returns-then-left-lt-PARAM_LEN-clause-bad : goal.returns-then-left-lt-PARAM_LEN-clause-bad
 returns-then-left-lt-PARAM_LEN-clause-bad c =
     let some : 0 < length c.loop-left.left.now = search rules in
-    λ _. bad_short c.args.bytes.now c.loop-left.params c.loop-left.left.now c.loop-left.invariant some c.if-left-lt-PARAM_LEN.true
+    λ _. bad_short c.args.bytes.now c.loop-left.params c.loop-left.left.now c.loop-left.invariant some
+    c.if-left-lt-PARAM_LEN.true
 
 pub returns-in-None-clause-bad : goal.returns-in-None-clause-bad
 returns-in-None-clause-bad c =
@@ -16,7 +17,10 @@ returns-in-None-clause-bad c =
 
 pub loop-left-preserved : goal.loop-left-preserved
 loop-left-preserved c =
-    subst (λ (ps : List TypedValue). Reads c.args.bytes.now ps c.split_at.result.1.now) (sym c.in_ok-push-in-Some.ensures.ok)
-    (subst (λ (s : List ℕ). Reads c.args.bytes.now (c.loop-left.params ++ c.in-Some.param ∷ []) s) (sym c.split_at.ensures.back)
-    (reads_more c.args.bytes.now c.loop-left.params c.loop-left.left.now c.in-Some.param c.loop-left.invariant c.if-left-lt-PARAM_LEN.false
-    (sym c.split_at.ensures.front ∙ c.in-Some.ensures.0) c.in-Some.ensures.1))
+    let more = reads_more c.args.bytes.now c.loop-left.params c.loop-left.left.now c.in-Some.param
+    c.loop-left.invariant c.if-left-lt-PARAM_LEN.false
+    (sym c.split_at.ensures.front ∙ c.in-Some.ensures.0) c.in-Some.ensures.1 in
+    subst (λ (ps : List TypedValue). Reads c.args.bytes.now ps c.split_at.result.1.now)
+    (sym c.in_ok-push-in-Some.ensures.ok)
+    (subst (λ (s : List ℕ). Reads c.args.bytes.now (c.loop-left.params ++ c.in-Some.param ∷ []) s)
+    (sym c.split_at.ensures.back) more)

@@ -6,15 +6,18 @@ use Rattle.spawn_config.proofs.configs.Configs.create.Goals as goal
 
 pub returns-in_err-next-clause-unused : goal.returns-in_err-next-clause-unused
 returns-in_err-next-clause-unused c =
-    subst (λ (h : Held). get h.limits h.next ≡ None) c.self.view_is (unused c.self.inside.limits c.self.inside.next c.self.invariant)
+    subst (λ (h : Held). get h.limits h.next ≡ None) c.self.view_is
+    (unused c.self.inside.limits c.self.inside.next c.self.invariant)
 
 pub returns-in_err-insert-clause-unused : goal.returns-in_err-insert-clause-unused
 returns-in_err-insert-clause-unused c =
-    subst (λ (h : Held). get h.limits h.next ≡ None) c.self.view_is (unused c.self.inside.limits c.self.inside.next c.self.invariant)
+    subst (λ (h : Held). get h.limits h.next ≡ None) c.self.view_is
+    (unused c.self.inside.limits c.self.inside.next c.self.invariant)
 
 pub returns-clause-unused : goal.returns-clause-unused
 returns-clause-unused c =
-    subst (λ (h : Held). get h.limits h.next ≡ None) c.self.view_is (unused c.self.inside.limits c.self.inside.next c.self.invariant)
+    subst (λ (h : Held). get h.limits h.next ≡ None) c.self.view_is
+    (unused c.self.inside.limits c.self.inside.next c.self.invariant)
 
 pub returns-clause-limits : goal.returns-clause-limits
 returns-clause-limits c =

@@ -6,7 +6,9 @@ use Rattle.spawn_config.proofs.configs.Configs.remove.Goals as goal
 
 pub returns-clause-there : goal.returns-clause-there
 returns-clause-there c =
-    let there = c.is_some.ensures ∙ ap is_some (c.remove.ensures.value ∙ sym (get-map_of c.self.inside.limits c.args.id) ∙ ap (λ (h : Held). get h.limits c.args.id) c.self.view_is) in
+    let there = c.is_some.ensures ∙ ap is_some
+    (c.remove.ensures.value ∙ sym (get-map_of c.self.inside.limits c.args.id)
+    ∙ ap (λ (h : Held). get h.limits c.args.id) c.self.view_is) in
     (λ t. sym there ∙ t, λ t. there ∙ t)
 
 pub returns-clause-limits : goal.returns-clause-limits
