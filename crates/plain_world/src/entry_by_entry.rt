@@ -7,7 +7,8 @@ use journal::{Entry, PlainWorld};
 use memory_refusal::NoMemory;
 use std::alloc::Global;
 
-/// The world after this entry; None exactly where the entry is not allowed.
+/// The world after this entry; None exactly where the entry is not allowed. `NoMemory` comes for want
+/// of memory alone, and then the world is let go.
 pub fn apply(
     alloc: Global,
     world: PlainWorld,

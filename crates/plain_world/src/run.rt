@@ -27,7 +27,8 @@ impl Model for PlainRun {
 }
 
 impl PlainRun {
-    /// The run in which process 1 is ready, with this start, and nothing has happened.
+    /// The run in which process 1 is ready, with this start, and nothing has happened. `NoMemory` comes
+    /// for want of memory alone.
     pub fn new(alloc: Global, start: Start) -> Result<PlainRun, NoMemory>
         requires { start.pid ≡ 1 }
         ensures { IfOk result (λ run. BeginsSo run start) }
@@ -42,7 +43,8 @@ impl PlainRun {
     }
 
     /// The run with this entry besides; None exactly where the entry is not allowed. Where process
-    /// 1 ends by it, its empty memory joins the ends.
+    /// 1 ends by it, its empty memory joins the ends. `NoMemory` comes for want of memory alone, and
+    /// then the run is let go.
     pub fn take(self, alloc: Global, entry: Entry) -> Result<Option<PlainRun>, NoMemory>
         ensures { IfOk result (λ run. TakesAllowed self entry run) }
     {
@@ -66,7 +68,7 @@ impl PlainRun {
         Ok(Some(PlainRun { journal, world }))
     }
 
-    /// The report of the run.
+    /// The report of the run. `NoMemory` comes for want of memory alone.
     pub fn report(&self, alloc: Global) -> Result<Vec<u8>, NoMemory>
         ensures { IfOk result (λ text. text.items ≡ report_text self.now) }
     {
