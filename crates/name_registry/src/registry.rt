@@ -45,8 +45,8 @@ impl Registry {
         }
     }
 
-    /// Puts a process under a name, in place of an earlier one. Refused for want of memory alone,
-    /// and then the registry is as it was.
+    /// Puts a process under a name of 1 to 255 bytes, in place of an earlier one. `NoMemory` comes
+    /// for want of memory alone, and then the registry is as it was.
     pub fn put(&mut self, name: &[u8], pid: u64) -> Result<(), NoMemory>
         requires some { 1 ≤ length name.now }
         requires short { length name.now ≤ 255 }
@@ -58,7 +58,7 @@ impl Registry {
         Ok(())
     }
 
-    /// The number of the process under a name.
+    /// The number of the process under a name; None exactly where no process stands under it.
     pub fn get(&self, name: &[u8]) -> Option<u64>
         ensures { result ≡ map.get self.now name.now }
     {
