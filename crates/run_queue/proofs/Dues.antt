@@ -1,11 +1,15 @@
 -- The numbers whose deadline is at most a time: in a list of entries, and in the map of the list.
-use Rattle.std.proofs.Common.{◌≡◌, ℕ, suc, ◌+◌, ◌<◌, ◌≤◌, min, Bool, true, false, cond, not, IsTrue, ◌↔◌, eqb, leb, List, [], ◌∷◌, ◌++◌, length, get_or, take, map, Option, Some, None, MatchOption, refl, ap, sym, ◌∙◌, subst, arith}
+use Rattle.std.proofs.Common.{◌≡◌, ℕ, suc, ◌+◌, ◌<◌, ◌≤◌, min, Bool, true, false, cond, not, IsTrue, ◌↔◌, eqb, leb}
+use Rattle.std.proofs.Common.{List, [], ◌∷◌, ◌++◌, length, get_or, take, map, Option, Some, None, MatchOption, refl}
+use Rattle.std.proofs.Common.{ap, sym, ◌∙◌, subst, arith}
 use Rattle.std.specs.Option.{is_some, IsSome, IsSomeAnd}
 use Rattle.std.specs.List.{filter, All, Contains}
 use Rattle.std.specs.Ordering.{nat_cmp}
 use Rattle.std.specs.Cmp.{nat_cmp_total}
-use Rattle.std.specs.FinMap.{FinMap, empty, insert, len-empty, len-insert, entries, find, get, len, len-entries, get-entries, get-empty, empty_of_len}
-use Rattle.std.proofs.lemmas.List.Elements.{All-nil, All-cons, All-filter, All-map, All-contains, All-push, Contains-push, Contains-append_left, filter_more, filter_passes}
+use Rattle.std.specs.FinMap.{FinMap, empty, insert, len-empty, len-insert, entries, find, get, len, len-entries}
+use Rattle.std.specs.FinMap.{get-entries, get-empty, empty_of_len}
+use Rattle.std.proofs.lemmas.List.Elements.{All-nil, All-cons, All-filter, All-map, All-contains, All-push}
+use Rattle.std.proofs.lemmas.List.Elements.{Contains-push, Contains-append_left, filter_more, filter_passes}
 use Rattle.std.proofs.lemmas.List.{append-nil, map-append}
 use Rattle.std.proofs.lemmas.Bool.Decides.{nat_tests}
 use Rattle.run_queue.specs.Schedule.{IsDue, IsLeastDue, IsLeastOf, due_numbers, lesser_of}
@@ -21,12 +25,14 @@ head_found e es =
     ap (λ b. cond b (Some e.1) (find nat_cmp e.0 es)) (ties e.0 e.0 ∙ tie)
 
 -- a later number is another one, since the head's is not found among the rest
-still_found : (e : ℕ × ℕ) (es : List (ℕ × ℕ)) (other : ℕ × ℕ) → is_some (find nat_cmp e.0 es) ≡ false → IsFound es other → IsFound (e ∷ es) other
+still_found : (e : ℕ × ℕ) (es : List (ℕ × ℕ)) (other : ℕ × ℕ) → is_some (find nat_cmp e.0 es) ≡ false
+    → IsFound es other → IsFound (e ∷ es) other
 still_found e es other none found =
     elim (eqb other.0 e.0) as (λ b. eqb other.0 e.0 ≡ b → IsFound (e ∷ es) other) [
       | true ↦ λ t.
           let same : other.0 ≡ e.0 = grind (arith, nat_tests) in
-          let some : is_some (find nat_cmp e.0 es) ≡ true = ap (λ n. is_some (find nat_cmp n es)) (sym same) ∙ ap is_some found in
+          let some : is_some (find nat_cmp e.0 es) ≡ true = ap (λ n. is_some (find nat_cmp n es)) (sym same)
+          ∙ ap is_some found in
           absurd cc
       | false ↦ λ t. ap (λ b. cond b (Some e.1) (find nat_cmp other.0 es)) (ties other.0 e.0 ∙ t) ∙ found
     ] refl
@@ -57,22 +63,29 @@ contains_head x xs = (0, omega arith, refl)
 contains_later : (x : ℕ) (xs : List ℕ) (y : ℕ) → Contains xs y → Contains (x ∷ xs) y
 contains_later x xs y h = (suc h.0, omega (arith, h.1), h.2)
 
-contained : (es : List (ℕ × ℕ)) (now p at : ℕ) → find nat_cmp p es ≡ Some at → at ≤ now → Contains (due_numbers now es) p
+contained : (es : List (ℕ × ℕ)) (now p at : ℕ) → find nat_cmp p es ≡ Some at → at ≤ now
+    → Contains (due_numbers now es) p
 contained [] now p at found le = absurd cc
 contained (e ∷ es) now p at found le =
     let rest = due_numbers now es in
     elim (eqb p e.0) as (λ b. eqb p e.0 ≡ b → Contains (due_numbers now (e ∷ es)) p) [
       | true ↦ λ t.
           let same : p ≡ e.0 = grind (arith, nat_tests) in
-          let here : Some e.1 ≡ Some at = sym (ap (λ b. cond b (Some e.1) (find nat_cmp p es)) (ties p e.0 ∙ t)) ∙ found in
+          let here : Some e.1 ≡ Some at = sym (ap (λ b. cond b (Some e.1) (find nat_cmp p es)) (ties p e.0 ∙ t))
+          ∙ found in
           let value : e.1 ≡ at = cc in
           let low : leb e.1 now ≡ true = grind (arith, nat_tests) in
-          let kept : due_numbers now (e ∷ es) ≡ e.0 ∷ rest = ap (λ b. map (λ (x : ℕ × ℕ). x.0) (cond b (e ∷ filter (λ (x : ℕ × ℕ). leb x.1 now) es) (filter (λ (x : ℕ × ℕ). leb x.1 now) es))) low in
-          subst (λ xs. Contains xs p) (sym kept) (subst (λ q. Contains (e.0 ∷ rest) q) (sym same) (contains_head e.0 rest))
+          let kept : due_numbers now (e ∷ es) ≡ e.0 ∷ rest =
+          ap (λ b. map (λ (x : ℕ × ℕ). x.0) (cond b (e ∷ filter (λ (x : ℕ × ℕ). leb x.1 now) es)
+          (filter (λ (x : ℕ × ℕ). leb x.1 now) es))) low in
+          subst (λ xs. Contains xs p) (sym kept) (subst (λ q. Contains (e.0 ∷ rest) q) (sym same)
+          (contains_head e.0 rest))
       | false ↦ λ t.
-          let there : find nat_cmp p es ≡ Some at = sym (ap (λ b. cond b (Some e.1) (find nat_cmp p es)) (ties p e.0 ∙ t)) ∙ found in
+          let there : find nat_cmp p es ≡ Some at =
+          sym (ap (λ b. cond b (Some e.1) (find nat_cmp p es)) (ties p e.0 ∙ t)) ∙ found in
           let later = contained es now p at there le in
-          elim (leb e.1 now) as (λ b. Contains (map (λ (x : ℕ × ℕ). x.0) (cond b (e ∷ filter (λ (x : ℕ × ℕ). leb x.1 now) es) (filter (λ (x : ℕ × ℕ). leb x.1 now) es))) p) [
+          elim (leb e.1 now) as (λ b. Contains (map (λ (x : ℕ × ℕ). x.0)
+          (cond b (e ∷ filter (λ (x : ℕ × ℕ). leb x.1 now) es) (filter (λ (x : ℕ × ℕ). leb x.1 now) es))) p) [
             | true ↦ contains_later e.0 rest p later
             | false ↦ later
           ]
@@ -82,7 +95,8 @@ contained (e ∷ es) now p at found le =
 pub due_contained : (es : List (ℕ × ℕ)) (now p : ℕ) → IsDue (map_of es) now p → Contains (due_numbers now es) p
 due_contained es now p due =
     let found = subst (λ (o : Option ℕ). IsSomeAnd o (λ at. at ≤ now)) (get-map_of es p) due in
-    elim (find nat_cmp p es) as (λ o. find nat_cmp p es ≡ o → IsSomeAnd o (λ at. at ≤ now) → Contains (due_numbers now es) p) [
+    elim (find nat_cmp p es) as (λ o. find nat_cmp p es ≡ o → IsSomeAnd o (λ at. at ≤ now)
+    → Contains (due_numbers now es) p) [
       | None ↦ λ e h. absurd h
       | Some at ↦ λ e h. contained es now p at e h
     ] refl found
@@ -92,7 +106,8 @@ none_due es now none p due =
     let at = subst (λ xs. Contains xs p) none (due_contained es now p due) in
     absurd (omega (arith, at.1))
 
-least_due : (es : List (ℕ × ℕ)) (now pid : ℕ) → Once es → Contains (due_numbers now es) pid → All (λ other. pid ≤ other) (due_numbers now es) → IsLeastDue (map_of es) now pid
+least_due : (es : List (ℕ × ℕ)) (now pid : ℕ) → Once es → Contains (due_numbers now es) pid
+    → All (λ other. pid ≤ other) (due_numbers now es) → IsLeastDue (map_of es) now pid
 least_due es now pid once there all = record {
   due = All-contains (IsDue (map_of es) now) (due_numbers now es) pid (each_due es now once) there;
   least = λ other d. All-contains (λ o. pid ≤ o) (due_numbers now es) other all (due_contained es now other d);
@@ -106,14 +121,24 @@ due_from_least es now (Some pid) once is = least_due es now pid once is.0 is.1
 
 -- one entry more
 due_numbers_more : (es : List (ℕ × ℕ)) (now i : ℕ) (d : ℕ × ℕ) → i < length es
-    → due_numbers now (take (i + 1) es) ≡ due_numbers now (take i es) ++ cond (leb (get_or es i d).1 now) ((get_or es i d).0 ∷ []) []
+    → due_numbers now (take (i + 1) es)
+    ≡ due_numbers now (take i es) ++ cond (leb (get_or es i d).1 now) ((get_or es i d).0 ∷ []) []
 due_numbers_more es now i d lt =
     ap (map (λ (e : ℕ × ℕ). e.0)) (filter_more (λ (e : ℕ × ℕ). leb e.1 now) es i d lt)
-    ∙ map-append (λ (e : ℕ × ℕ). e.0) (filter (λ (e : ℕ × ℕ). leb e.1 now) (take i es)) (cond (leb (get_or es i d).1 now) (get_or es i d ∷ []) [])
-    ∙ ap (λ xs. due_numbers now (take i es) ++ xs) (elim (leb (get_or es i d).1 now) as (λ b. map (λ (e : ℕ × ℕ). e.0) (cond b (get_or es i d ∷ []) []) ≡ cond b ((get_or es i d).0 ∷ []) []) [ true ↦ refl | false ↦ refl ])
+    ∙ map-append (λ (e : ℕ × ℕ). e.0) (filter (λ (e : ℕ × ℕ). leb e.1 now) (take i es))
+    (cond (leb (get_or es i d).1 now) (get_or es i d ∷ []) [])
+    ∙ ap (λ xs. due_numbers now (take i es) ++ xs)
+    (elim (leb (get_or es i d).1 now)
+    as (λ b. map (λ (e : ℕ × ℕ). e.0) (cond b (get_or es i d ∷ []) []) ≡ cond b ((get_or es i d).0 ∷ []) [])
+    [ true ↦ refl | false ↦ refl ])
 
-least_push : (least : Option ℕ) (xs : List ℕ) (p : ℕ) → IsLeastOf least xs → IsLeastOf (Some (lesser_of least p)) (xs ++ p ∷ [])
-least_push None xs p is = (Contains-push xs p, subst (λ ys. All (λ o. p ≤ o) (ys ++ p ∷ [])) (sym is) (All-push (λ o. p ≤ o) [] p (All-nil (λ o. p ≤ o)) (omega arith)))
+least_push : (least : Option ℕ) (xs : List ℕ) (p : ℕ) → IsLeastOf least xs
+    → IsLeastOf (Some (lesser_of least p)) (xs ++ p ∷ [])
+least_push None xs p is = (
+  Contains-push xs p,
+  subst (λ ys. All (λ o. p ≤ o) (ys ++ p ∷ [])) (sym is)
+      (All-push (λ o. p ≤ o) [] p (All-nil (λ o. p ≤ o)) (omega arith)),
+)
 least_push (Some q) xs p is =
     elim (leb q p) as (λ b. leb q p ≡ b → IsLeastOf (Some (min q p)) (xs ++ p ∷ [])) [
       | true ↦ λ t.
@@ -128,32 +153,44 @@ least_push (Some q) xs p is =
           (Contains-push xs p, All-push (λ o. p ≤ o) xs p (λ k d lt. let h = is.1 k d lt in omega arith) (omega arith))
     ] refl
 
-pub least_more : (es : List (ℕ × ℕ)) (now i : ℕ) (d : ℕ × ℕ) (least : Option ℕ) → i < length es → (get_or es i d).1 ≤ now
-    → IsLeastOf least (due_numbers now (take i es)) → IsLeastOf (Some (lesser_of least (get_or es i d).0)) (due_numbers now (take (i + 1) es))
+pub least_more : (es : List (ℕ × ℕ)) (now i : ℕ) (d : ℕ × ℕ) (least : Option ℕ) → i < length es
+    → (get_or es i d).1 ≤ now
+    → IsLeastOf least (due_numbers now (take i es))
+    → IsLeastOf (Some (lesser_of least (get_or es i d).0)) (due_numbers now (take (i + 1) es))
 least_more es now i d least lt le is =
     let low : leb (get_or es i d).1 now ≡ true = grind (arith, nat_tests) in
-    let more = due_numbers_more es now i d lt ∙ ap (λ b. due_numbers now (take i es) ++ cond b ((get_or es i d).0 ∷ []) []) low in
-    subst (IsLeastOf (Some (lesser_of least (get_or es i d).0))) (sym more) (least_push least (due_numbers now (take i es)) (get_or es i d).0 is)
+    let more = due_numbers_more es now i d lt
+    ∙ ap (λ b. due_numbers now (take i es) ++ cond b ((get_or es i d).0 ∷ []) []) low in
+    subst (IsLeastOf (Some (lesser_of least (get_or es i d).0))) (sym more)
+    (least_push least (due_numbers now (take i es)) (get_or es i d).0 is)
 
-pub least_same : (es : List (ℕ × ℕ)) (now i : ℕ) (d : ℕ × ℕ) (least : Option ℕ) → i < length es → now < (get_or es i d).1
+pub least_same : (es : List (ℕ × ℕ)) (now i : ℕ) (d : ℕ × ℕ) (least : Option ℕ) → i < length es
+    → now < (get_or es i d).1
     → IsLeastOf least (due_numbers now (take i es)) → IsLeastOf least (due_numbers now (take (i + 1) es))
 least_same es now i d least lt late is =
     let high : leb (get_or es i d).1 now ≡ false = grind (arith, nat_tests) in
-    let more = due_numbers_more es now i d lt ∙ ap (λ b. due_numbers now (take i es) ++ cond b ((get_or es i d).0 ∷ []) []) high in
+    let more = due_numbers_more es now i d lt
+    ∙ ap (λ b. due_numbers now (take i es) ++ cond b ((get_or es i d).0 ∷ []) []) high in
     subst (IsLeastOf least) (sym (more ∙ append-nil (due_numbers now (take i es)))) is
 
 -- a map that is not empty has a number, and one that has a number is not empty
-number_in : (m : FinMap nat_cmp ℕ) (es : List (ℕ × ℕ)) → entries m ≡ es → (len m ≡ 0 → ⊥) → (pid : ℕ) × IsSome (get m pid)
+number_in : (m : FinMap nat_cmp ℕ) (es : List (ℕ × ℕ)) → entries m ≡ es → (len m ≡ 0 → ⊥)
+    → (pid : ℕ) × IsSome (get m pid)
 number_in m [] is some = absurd (some (len-entries m ∙ ap length is))
-number_in m (e ∷ es) is some =
-    (e.0, subst (λ (o : Option ℕ). IsSome o) (sym (get-entries m e.0 ∙ ap (find nat_cmp e.0) is ∙ head_found e es)) refl)
+number_in m (e ∷ es) is some = (
+  e.0,
+  subst (λ (o : Option ℕ). IsSome o) (sym (get-entries m e.0 ∙ ap (find nat_cmp e.0) is ∙ head_found e es))
+      refl,
+)
 
 not_empty : (m : FinMap nat_cmp ℕ) (pid : ℕ) → IsSome (get m pid) → len m ≡ 0 → ⊥
 not_empty m pid some none =
-    let is : is_some (get m pid) ≡ false = ap is_some (ap (λ n. get n pid) (empty_of_len m none) ∙ get-empty nat_cmp pid) in
+    let is : is_some (get m pid) ≡ false = ap is_some (ap (λ n. get n pid) (empty_of_len m none)
+    ∙ get-empty nat_cmp pid) in
     cc
 
-pub has_deadlines : (m : FinMap nat_cmp ℕ) (b : Bool) → (IsTrue b ↔ (len m ≡ 0)) → IsTrue (not b) ↔ ((pid : ℕ) × IsSome (get m pid))
+pub has_deadlines : (m : FinMap nat_cmp ℕ) (b : Bool) → (IsTrue b ↔ (len m ≡ 0))
+    → IsTrue (not b) ↔ ((pid : ℕ) × IsSome (get m pid))
 has_deadlines m true h = (λ f. absurd cc, λ s. absurd (not_empty m s.0 s.1 (h.0 refl)))
 has_deadlines m false h = (λ _. number_in m (entries m) refl (λ z. let f : false ≡ true = h.1 z in cc), λ _. refl)
 
@@ -164,4 +201,5 @@ no_deadlines m none = ap len none ∙ len-empty nat_cmp ℕ
 pub insert_le : (m n : FinMap nat_cmp ℕ) (pid at : ℕ) → n ≡ insert m pid at → len n ≤ len m + 1
 insert_le m n pid at is =
     let grows = ap len is ∙ len-insert nat_cmp_total m pid at in
-    elim (is_some (get m pid)) as (λ b. len n ≡ cond b (len m) (len m + 1) → len n ≤ len m + 1) [ true ↦ λ e. omega arith | false ↦ λ e. omega arith ] grows
+    elim (is_some (get m pid)) as (λ b. len n ≡ cond b (len m) (len m + 1) → len n ≤ len m + 1)
+    [ true ↦ λ e. omega arith | false ↦ λ e. omega arith ] grows

@@ -1,4 +1,5 @@
-use Rattle.std.specs.Prelude.{◌≡◌, ◌≤◌, ℕ, min, not, List, [], map, filter, Contains, All, ◌==◌, nat_le, Option, Some, None, IsSomeAnd, refl}
+use Rattle.std.specs.Prelude.{◌≡◌, ◌≤◌, ℕ, min, not, List, [], map, filter, Contains, All, ◌==◌, nat_le, Option, Some}
+use Rattle.std.specs.Prelude.{None, IsSomeAnd, refl}
 use Rattle.std.specs.Ordering.{nat_cmp}
 use Rattle.std.specs.FinMap.{FinMap, get, code}
 use Rattle.std.specs.Coded.{Coded, code_by, coded×, coded_ℕ, coded_list}

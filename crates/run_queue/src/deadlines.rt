@@ -1,5 +1,6 @@
 //! Deadlines by process number, in room that was made beforehand.
-ghost use Rattle.std.specs.Prelude.{◌≡◌, ◌==◌, ◌<◌, ◌≤◌, ◌↔◌, ℕ, false, position, MatchOption, IsTrue, OnOk};
+ghost use Rattle.std.specs.Prelude.{◌≡◌, ◌==◌, ◌<◌, ◌≤◌, ◌↔◌, ℕ, false, position};
+ghost use Rattle.std.specs.Prelude.{MatchOption, IsTrue, OnOk};
 ghost use Rattle.std.specs.Ordering.{nat_cmp};
 ghost use Rattle.std.specs.FinMap as map;
 ghost use Rattle.run_queue.specs.Schedule.{IsDue, IsLeastDue, IsLeastOf, due_numbers, lesser_of};
@@ -30,6 +31,7 @@ impl Model for Deadlines {
 }
 
 impl Deadlines {
+    /// No deadlines. It takes no memory yet.
     pub fn new(alloc: Global) -> Deadlines
         ensures { result.deadlines ≡ map.empty }
     {
@@ -38,7 +40,8 @@ impl Deadlines {
         }
     }
 
-    /// Makes room for `count` deadlines altogether.
+    /// Makes room for `count` deadlines altogether. `NoMemory` comes for want of memory alone, and then
+    /// the deadlines are as they were.
     pub fn reserve(&mut self, count: usize) -> Result<(), NoMemory>
         ensures deadlines { self.new.deadlines ≡ self.old.deadlines }
         ensures room { self.old.room ≤ self.new.room }
@@ -72,13 +75,15 @@ impl Deadlines {
         self.entries.retain(|entry| entry.0 != pid);
     }
 
-    /// The least number whose deadline is at most `now`.
+    /// The least number whose deadline is at most `now`; None exactly where there is none.
     pub fn least_due(&self, now: u64) -> Option<u64>
-        ensures { MatchOption result ((pid : ℕ) → ¬ IsDue self.now.deadlines now pid) (IsLeastDue self.now.deadlines now) }
+        ensures { MatchOption result ((pid : ℕ) → ¬ IsDue self.now.deadlines now pid)
+            (IsLeastDue self.now.deadlines now) }
     {
         least_of_due(&self.entries, now)
     }
 
+    /// Whether no process has a deadline.
     pub fn is_empty(&self) -> bool
         ensures { IsTrue result ↔ (map.len self.now.deadlines ≡ 0) }
     {

@@ -1,4 +1,5 @@
-ghost use Rattle.std.specs.Prelude.{◌≡◌, ◌↔◌, ◌<◌, ℕ, false, [], ◌∷◌, ◌++◌, length, max, IsTrue, IsNone, IsSome, OnOk, OnErr, MatchOption};
+ghost use Rattle.std.specs.Prelude.{◌≡◌, ◌↔◌, ◌<◌, ℕ, false, [], ◌∷◌, ◌++◌, length, max};
+ghost use Rattle.std.specs.Prelude.{IsTrue, IsNone, IsSome, OnOk, OnErr, MatchOption};
 ghost use Rattle.std.specs.Option.{option_to_list};
 ghost use Rattle.std.specs.FinMap as map;
 ghost use Rattle.run_queue.specs.Schedule.{IsDue, IsLeastDue, without};
@@ -45,8 +46,8 @@ impl Queue {
         }
     }
 
-    /// Makes room for `n` processes altogether, in the list and in the deadlines. Refused for want
-    /// of memory alone, and then the queue is as it was.
+    /// Makes room for `n` processes altogether, in the list and in the deadlines. `NoMemory` comes
+    /// for want of memory alone, and then the queue is as it was.
     pub fn reserve(&mut self, n: u32) -> Result<(), NoMemory>
         ensures ready { self.new.ready ≡ self.old.ready }
         ensures deadlines { self.new.deadlines ≡ self.old.deadlines }
@@ -73,7 +74,8 @@ impl Queue {
         }
     }
 
-    /// Takes the process at the front out of the list. Its place is free again.
+    /// Takes the process at the front out of the list; None exactly where the list is empty. Its place
+    /// is free again.
     pub fn pop(&mut self) -> Option<u64>
         ensures popped { self.old.ready ≡ option_to_list result ++ self.new.ready }
         ensures none { IsNone result ↔ (self.old.ready ≡ []) }
@@ -112,10 +114,12 @@ impl Queue {
     }
 
     /// Takes away the deadline of the process with the least number of those whose deadline is at
-    /// most `now`, and answers the number.
+    /// most `now`, and answers the number; None exactly where no deadline is at most `now`.
     pub fn due(&mut self, now: u64) -> Option<u64>
-        ensures least { MatchOption result ((pid : ℕ) → ¬ IsDue self.old.deadlines now pid) (IsLeastDue self.old.deadlines now) }
-        ensures deadlines { MatchOption result (self.new.deadlines ≡ self.old.deadlines) (λ pid. self.new.deadlines ≡ map.remove self.old.deadlines pid) }
+        ensures least { MatchOption result ((pid : ℕ) → ¬ IsDue self.old.deadlines now pid)
+            (IsLeastDue self.old.deadlines now) }
+        ensures deadlines { MatchOption result (self.new.deadlines ≡ self.old.deadlines)
+            (λ pid. self.new.deadlines ≡ map.remove self.old.deadlines pid) }
         ensures ready { self.new.ready ≡ self.old.ready }
         ensures room { self.new.room ≡ self.old.room }
     {

@@ -6,12 +6,14 @@ use Rattle.run_queue.proofs.deadlines.Deadlines.clear.Goals as goal
 
 pub invariant_of-self : goal.invariant_of-self
 invariant_of-self c =
-    let kept = filter_same _ (λ (e : ℕ × ℕ). not (eqb e.0 c.args.pid)) _ (λ x b f' k. search rules) c.self.inside.entries.items c.retain.new.self.items c.retain.ensures.filtered in
+    let kept = filter_same _ (λ (e : ℕ × ℕ). not (eqb e.0 c.args.pid)) _ (λ x b f' k. search rules)
+    c.self.inside.entries.items c.retain.new.self.items c.retain.ensures.filtered in
     subst Once (sym kept) (once_filter c.self.inside.entries.items c.args.pid c.self.invariant)
 
 pub returns-clause-deadlines : goal.returns-clause-deadlines
 returns-clause-deadlines c =
-    let kept = filter_same _ (λ (e : ℕ × ℕ). not (eqb e.0 c.args.pid)) _ (λ x b f' k. search rules) c.self.inside.entries.items c.retain.new.self.items c.retain.ensures.filtered in
+    let kept = filter_same _ (λ (e : ℕ × ℕ). not (eqb e.0 c.args.pid)) _ (λ x b f' k. search rules)
+    c.self.inside.entries.items c.retain.new.self.items c.retain.ensures.filtered in
     ap map_of kept
     ∙ filter_is_remove c.self.inside.entries.items c.args.pid
     ∙ ap (λ places. remove places.deadlines c.args.pid) c.self.view_is
