@@ -67,7 +67,8 @@ fn both_passes<V: Logged>(mut passes: Passes<V>) -> (Pass<V>, Pass<V>)
     (one, two)
 }
 
-/// Two passes add an amount each, the first one first. The only refusal is want of memory.
+/// Two passes add an amount each, the first one first. `NoMemory` comes for want of memory alone, and
+/// then the tally is dropped.
 pub fn add_in_turn<R: Wait>(
     rt: &R,
     alloc: Global,

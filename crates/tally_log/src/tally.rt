@@ -4,14 +4,18 @@ use log_lock::Logged;
 /// An amount, and the number of the pass by which it was entered.
 #[derive(Drop)]
 pub struct Entry {
+    /// The number of the pass.
     pub by: u8,
+    /// The amount.
     pub amount: u64,
 }
 
 /// A start, which never changes, and the entries since.
 #[derive(Drop)]
 pub struct Tally {
+    /// What the tally began with.
     pub start: u64,
+    /// The entries, in the order in which they were entered.
     pub entries: Vec<Entry>,
 }
 

@@ -16,13 +16,16 @@ use std::thread::{Threads, join};
 /// What the workers do: each of them adds all the amounts to a tally that begins at the start.
 #[derive(Drop)]
 pub struct Plan {
+    /// What the tally begins with.
     pub start: u64,
+    /// How many workers there are, from 1 to 64.
     pub workers: u8,
+    /// What each worker adds, in this order.
     pub amounts: Vec<u64>,
 }
 
-/// Runs the plan's workers, in threads as far as the machine makes them. The only refusal is want of
-/// memory, and then the tally is dropped.
+/// Runs the plan's workers, in threads as far as the machine makes them. `NoMemory` comes for want of
+/// memory alone, and then the tally is dropped.
 pub fn run_workers<R: Threads + Wait + Sync>(
     rt: &R,
     alloc: Global,
@@ -30,7 +33,8 @@ pub fn run_workers<R: Threads + Wait + Sync>(
 ) -> Result<Tally, NoMemory>
     requires { (0 < plan.now.workers) × (plan.now.workers ≤ 64) }
     ensures start { IfOk result (λ t. t.start ≡ plan.now.start) }
-    ensures amounts { IfOk result (λ t. (k : ℕ) → k < plan.now.workers → amounts_of k t.entries.items ≡ plan.now.amounts.items) }
+    ensures amounts { IfOk result (λ t. (k : ℕ) → k < plan.now.workers
+        → amounts_of k t.entries.items ≡ plan.now.amounts.items) }
     ensures makers { IfOk result (λ t. All (λ e. e.by < plan.now.workers) t.entries.items) }
 {
     let tally = Tally {
@@ -56,7 +60,8 @@ fn work_from<R: Threads + Wait + Sync>(
     requires each { EachFrom (IsNewPass lock.now plan.now.start plan.now.workers) from (passes_of passes) }
     requires count { (0 < length (passes_of passes)) × (from + length (passes_of passes) ≡ plan.now.workers) }
     ensures lock { IsPassOf lock.now result.0 }
-    ensures worked { HasWorked plan.now.start plan.now.workers plan.now.amounts.items from plan.now.workers result.1 (knowledge result.0) }
+    ensures worked { HasWorked plan.now.start plan.now.workers plan.now.amounts.items from plan.now.workers result.1
+        (knowledge result.0) }
 {
     let Some(pass) = passes.next() else {
         unreachable!()
@@ -69,11 +74,17 @@ fn work_from<R: Threads + Wait + Sync>(
         rt,
         || -> (Pass<Tally>, bool)
             requires { IsNewPass lock.now plan.now.start plan.now.workers from pass }
-            ensures { IsPassOf lock.entry.now result.0 × HasWorked plan.entry.now.start plan.entry.now.workers plan.entry.now.amounts.items from (from + 1) result.1 (knowledge result.0) }
+            ensures { IsPassOf lock.entry.now result.0
+                × HasWorked plan.entry.now.start plan.entry.now.workers plan.entry.now.amounts.items from (from + 1)
+                result.1 (knowledge result.0) }
         { work(rt, lock, plan, from, pass) },
         || -> (Pass<Tally>, bool)
-            requires { IsSync R.row × EachFrom (IsNewPass lock.now plan.now.start plan.now.workers) next (passes_of passes) × (0 < length (passes_of passes)) × (next + length (passes_of passes) ≡ plan.now.workers) }
-            ensures { IsPassOf lock.entry.now result.0 × HasWorked plan.entry.now.start plan.entry.now.workers plan.entry.now.amounts.items next plan.entry.now.workers result.1 (knowledge result.0) }
+            requires { IsSync R.row
+                × EachFrom (IsNewPass lock.now plan.now.start plan.now.workers) next (passes_of passes)
+                × (0 < length (passes_of passes)) × (next + length (passes_of passes) ≡ plan.now.workers) }
+            ensures { IsPassOf lock.entry.now result.0
+                × HasWorked plan.entry.now.start plan.entry.now.workers plan.entry.now.amounts.items next
+                plan.entry.now.workers result.1 (knowledge result.0) }
         { work_from(rt, lock, plan, next, passes) },
     );
     (lock.join(one, others), one_added && others_added)
@@ -89,7 +100,8 @@ fn work<R: Wait>(
 ) -> (Pass<Tally>, bool)
     requires { IsNewPass lock.now plan.now.start plan.now.workers number pass }
     ensures lock { IsPassOf lock.now result.0 }
-    ensures worked { HasWorked plan.now.start plan.now.workers plan.now.amounts.items number (number + 1) result.1 (knowledge result.0) }
+    ensures worked { HasWorked plan.now.start plan.now.workers plan.now.amounts.items number (number + 1) result.1
+        (knowledge result.0) }
 {
     add_all(rt, lock, pass, &plan.amounts)
 }

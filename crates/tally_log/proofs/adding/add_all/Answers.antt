@@ -14,7 +14,9 @@ returns-then-not-added-clause-adds g c =
     let number = ap (λ k. k.number) i.1 in (
       c.loop-count.count,
       c.loop-count-test.true,
-      none_added c.add-next.result.1 (knowledge c.args.pass).number _ (knowledge c.loop-count.pass) (knowledge c.add-next.result.0) (search (rules, c.if-not-added.true)) (i.0.1 ∙ ap (λ n. n ∷ []) number) c.add-next.ensures.adds ∙ i.3,
+      none_added c.add-next.result.1 (knowledge c.args.pass).number _ (knowledge c.loop-count.pass)
+          (knowledge c.add-next.result.0) (search (rules, c.if-not-added.true)) (i.0.1 ∙ ap (λ n. n ∷ []) number)
+          c.add-next.ensures.adds ∙ i.3,
     )
 
 pub loop-count-preserved : goal.loop-count-preserved
@@ -25,10 +27,14 @@ loop-count-preserved g c =
       (c.add-next.ensures.lock, ap (λ k. k.numbers) kept ∙ (i.0.1 ∙ ap (λ k. k.number ∷ []) (sym kept))),
       kept ∙ ap (λ (k : Knowledge Entry ℕ). with_seen (knowledge c.add-next.result.0).seen k) i.1,
       omega (arith, c.loop-count-test.true),
-      next_added c.add-next.result.1 (knowledge c.args.pass).number c.args.amounts.now c.loop-count.count _ (knowledge c.args.pass) (knowledge c.loop-count.pass) (knowledge c.add-next.result.0) (search (rules, c.if-not-added.false)) c.loop-count-test.true (i.0.1 ∙ ap (λ n. n ∷ []) number) number i.3 c.add-next.ensures.adds,
+      next_added c.add-next.result.1 (knowledge c.args.pass).number c.args.amounts.now c.loop-count.count _
+          (knowledge c.args.pass) (knowledge c.loop-count.pass) (knowledge c.add-next.result.0)
+          (search (rules, c.if-not-added.false)) c.loop-count-test.true (i.0.1 ∙ ap (λ n. n ∷ []) number) number i.3
+          c.add-next.ensures.adds,
     )
 
 pub returns-clause-adds : goal.returns-clause-adds
 returns-clause-adds g c =
     let k = knowledge c.args.pass in
-    c.loop-count.invariant.3 ∙ ap (λ (l : List ℕ). amounts_of k.number k.seen ++ l) (take_all c.loop-count.count c.args.amounts.now (omega (arith, c.loop-count-test.false)))
+    c.loop-count.invariant.3 ∙ ap (λ (l : List ℕ). amounts_of k.number k.seen ++ l)
+    (take_all c.loop-count.count c.args.amounts.now (omega (arith, c.loop-count-test.false)))

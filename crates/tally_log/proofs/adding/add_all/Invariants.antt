@@ -9,7 +9,8 @@ invariant-loop-count g l =
     IsOwnPassOf l.lock l.pass
     × (knowledge l.pass ≡ with_seen (knowledge l.pass).seen (knowledge l.fn.pass))
     × (l.count ≤ length l.amounts)
-    × (amounts_of (knowledge l.fn.pass).number (knowledge l.pass).seen ≡ amounts_of (knowledge l.fn.pass).number (knowledge l.fn.pass).seen ++ take l.count l.amounts)
+    × (amounts_of (knowledge l.fn.pass).number (knowledge l.pass).seen ≡ amounts_of (knowledge l.fn.pass).number
+    (knowledge l.fn.pass).seen ++ take l.count l.amounts)
 
 abbrev pub decreases-loop-count : goal.decreases-loop-count
 decreases-loop-count g l = length l.amounts - l.count

@@ -18,5 +18,6 @@ loop-pass-preserved g c =
       omega (arith, sum, long),
       h.1,
       λ k lt. subst (λ ns. Contains ns k) (sym (ap (λ v. v.numbers) knows))
-          (contains_next (knowledge c.loop-pass.all).numbers (knowledge c.in-Some-next.pass).numbers count k (ap (λ v. v.numbers) h.0.1) lt (i.4 k)),
+          (contains_next (knowledge c.loop-pass.all).numbers (knowledge c.in-Some-next.pass).numbers count k
+          (ap (λ v. v.numbers) h.0.1) lt (i.4 k)),
     )

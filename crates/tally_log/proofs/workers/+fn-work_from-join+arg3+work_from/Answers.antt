@@ -7,5 +7,11 @@ use Rattle.tally_log.proofs.workers.+fn-work_from-join+arg3+work_from.Goals.{the
 
 pub returns-clause-worked : goal.returns-clause-worked
 returns-clause-worked g t c =
-    both_worked _ _ _ _ _ c.join-one.result.0.1 c.join-one.result.1.1 _ (knowledge c.join-one.result.0.0) (knowledge c.join-one.result.1.0) (knowledge c.join.result) c.join-one.ensures.first.1 c.join-one.ensures.second.1 c.join.ensures.knows c.join.ensures.this c.join.ensures.that
-    (λ r. elim c.if-one_added.branch [ then-one_added w ↦ (w.if-one_added.true, sym w.result-is ∙ r) | else-one_added w ↦ absurd (false-true (sym w.if-one_added.false ∙ (sym w.result-is ∙ r))) ])
+    both_worked _ _ _ _ _ c.join-one.result.0.1 c.join-one.result.1.1 _ (knowledge c.join-one.result.0.0)
+    (knowledge c.join-one.result.1.0) (knowledge c.join.result) c.join-one.ensures.first.1
+    c.join-one.ensures.second.1 c.join.ensures.knows c.join.ensures.this c.join.ensures.that
+    (λ r. elim c.if-one_added.branch [
+      | then-one_added w ↦ (w.if-one_added.true, sym w.result-is ∙ r)
+      | else-one_added w ↦
+          absurd (false-true (sym w.if-one_added.false ∙ (sym w.result-is ∙ r)))
+    ])
