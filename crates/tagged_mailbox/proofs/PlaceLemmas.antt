@@ -26,7 +26,8 @@ adds_place old new tag is = record {
       rw is (omega (arith, sum, none));
 }
 
-pub uses_place : (old new : List ℕ) (tag i : ℕ) → position (λ place. eqb place tag) old ≡ Some i → new ≡ remove old i → UsesPlace old new tag
+pub uses_place : (old new : List ℕ) (tag i : ℕ) → position (λ place. eqb place tag) old ≡ Some i → new ≡ remove old i
+    → UsesPlace old new tag
 uses_place old new tag i found is =
     let at = position-Some (λ place. eqb place tag) old i 0 found in
     let here : get_or old i 0 ≡ tag = grind (arith, nat_tests, at.1) in

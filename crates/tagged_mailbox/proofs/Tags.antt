@@ -6,7 +6,8 @@ use Rattle.tagged_mailbox.specs.Pick.{tags_in}
 
 -- the number that the first eight bytes spell
 abbrev pub first_tag : List ℕ → ℕ
-first_tag s = from_le_bytes w64 (get_or s 0 0 ∷ get_or s 1 0 ∷ get_or s 2 0 ∷ get_or s 3 0 ∷ get_or s 4 0 ∷ get_or s 5 0 ∷ get_or s 6 0 ∷ get_or s 7 0 ∷ [])
+first_tag s = from_le_bytes w64 (get_or s 0 0 ∷ get_or s 1 0 ∷ get_or s 2 0 ∷ get_or s 3 0
+    ∷ get_or s 4 0 ∷ get_or s 5 0 ∷ get_or s 6 0 ∷ get_or s 7 0 ∷ [])
 
 -- fewer than eight bytes name no tag
 pub tags_in-short : (s : List ℕ) → length s < 8 → tags_in s ≡ []

@@ -1,4 +1,5 @@
-ghost use Rattle.std.specs.Prelude.{◌≡◌, ◌↔◌, ◌%◌, ◌+◌, ◌<◌, ◌≤◌, false, [], ◌∷◌, ◌++◌, length, IsTrue, OnOk, OnErr, IfErr, IsNone, vec_len, vec_capacity};
+ghost use Rattle.std.specs.Prelude.{◌≡◌, ◌↔◌, ◌%◌, ◌+◌, ◌<◌, ◌≤◌, false, [], ◌∷◌, ◌++◌, length};
+ghost use Rattle.std.specs.Prelude.{IsTrue, OnOk, OnErr, IfErr, IsNone, vec_len, vec_capacity};
 ghost use Rattle.std.specs.Option.{option_to_list};
 ghost use Rattle.std.specs.List.{remove, slice_index_or};
 ghost use Rattle.tagged_mailbox.specs.Mail.{reserved, AddsPlace, UsesPlace, counted, is_full, handed_back};
@@ -51,8 +52,8 @@ impl<M: Tagged> Mailbox<M> {
         }
     }
 
-    /// Reserves one place more for an item of this tag. Refused for want of memory alone, and then
-    /// the mailbox is as it was.
+    /// Reserves one place more for an item of this tag. `NoMemory` comes for want of memory alone, and
+    /// then the mailbox is as it was.
     pub fn reserve(&mut self, tag: u64) -> Result<(), NoMemory>
         ensures items { self.new.items ≡ self.old.items }
         ensures ok { OnOk result (AddsPlace self.old.places self.new.places tag) }
@@ -105,7 +106,7 @@ impl<M: Tagged> Mailbox<M> {
         Ok(())
     }
 
-    /// Takes out the first item, in the order of arrival, whose tag is wanted.
+    /// Takes out the first item, in the order of arrival, whose tag is wanted; None exactly where none is.
     ///
     /// `tags` names the wanted tags by eight little-endian bytes each; an empty list wants any.
     pub fn pick(&mut self, tags: &[u8]) -> Option<M>
@@ -118,7 +119,7 @@ impl<M: Tagged> Mailbox<M> {
         Some(take_out(&mut self.items, &mut self.count, index))
     }
 
-    /// Takes out the first item in the order of arrival.
+    /// Takes out the first item in the order of arrival; None exactly where the mailbox is empty.
     pub fn pop(&mut self) -> Option<M>
         ensures popped { self.old.items ≡ option_to_list result ++ self.new.items }
         ensures none { IsNone result ↔ (self.old.items ≡ []) }
