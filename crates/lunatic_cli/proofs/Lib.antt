@@ -8,5 +8,8 @@ pub mod Outsides
 pub mod Births
 pub mod SmallStatus
 pub mod FirstNode
-pub mod Judgements
+pub mod SmallAccepted
+pub mod AcceptedAlone
+pub mod Completions
+pub mod Asked
 pub mod Told

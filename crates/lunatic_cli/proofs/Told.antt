@@ -60,3 +60,26 @@ starved-by setting before after old new book status (inl whole) starve = elim wh
     | inr none ↦ none.0
   ]
 ]
+
+-- the file was read
+
+not-four : (end : End) → status_of_end end ≡ 4 → ⊥
+not-four EndIs.Done e = absurd (cc)
+not-four (EndIs.Trap trap) e = absurd (cc)
+not-four (EndIs.Spent spent) e = absurd (cc)
+not-four (EndIs.Host fault) e = absurd (cc)
+not-four EndIs.Stalled e = absurd (cc)
+not-four EndIs.NoMemory e = absurd (cc)
+
+told-four : (starves stalls : Bool) (end : End) → 4 ≡ cond starves 8 (cond stalls 6 (status_of_end end)) → ⊥
+told-four true stalls end is = absurd (cc)
+told-four false true end is = absurd (cc)
+told-four false false end is = not-four end (sym is)
+
+pub runs-read : {P : Type 0} (setting : Setting P) (before after : List (Option ℕ)) (old new : Option (List ℕ)) (book : Book) (status : ℕ) →
+    RunsWhole setting before after old new book status ⊎ RunsNothing old new book status → status ≡ 4 → ⊥
+runs-read setting before after old new book status (inr nothing) four = let e = nothing.status_is in absurd (cc)
+runs-read setting before after old new book status (inl whole) four = elim whole.writes [
+  | inl reported ↦ told-four (list_any is_starve book.entries) (list_any is_stall book.entries) reported.status_told.end (sym four ∙ reported.status_told.status_is)
+  | inr rest ↦ elim rest [ inl unwritten ↦ (let e = unwritten.status_is in absurd (cc)) | inr none ↦ (let e = none.0 in absurd (cc)) ]
+]

@@ -1,10 +1,13 @@
 -- The module file, and what it may be.
-use Rattle.std.specs.Prelude.{◌≡◌, ℕ, ◌<◌, ◌≤◌, List, length, Option, Some, None, IfSome}
+use Rattle.std.specs.Prelude.{◌≡◌, ◌≢◌, ℕ, ◌<◌, ◌≤◌, ◌↔◌, List, length, Option, Some, None, IfSome}
+use Rattle.outside.specs.Causes.{Stayed}
 use Rattle.outside.specs.Files.{Contents}
-use Rattle.wasm_form.specs.declared.parts.Parts.{Parts}
-use Rattle.wasm_form.specs.Modules.{Spells}
 use Rattle.wasm_form.specs.Small.{SmallInstr}
 use Rattle.wasm_form.specs.Form.{Small}
+use Rattle.wasm_form.specs.Verdict as is
+use Rattle.module_validator.specs.Host.{host}
+use Rattle.module_validator.specs.Answers.{meant_by}
+use Rattle.module_validator.specs.declared.answer.Verdict.{Verdict}
 
 -- the longest module file, in bytes
 abbrev pub file_limit : ℕ
@@ -20,23 +23,24 @@ abbrev pub IsUnreadable : Option (List ℕ) → Type 0
 IsUnreadable None = Unit {0}
 IsUnreadable (Some bytes) = file_limit < length bytes
 
--- the bytes spell no module (Core 1.0, 5.5)
-abbrev pub IsMalformed : List ℕ → Type 0
-IsMalformed bytes = (m : Parts) → ¬ Spells bytes m
+-- where the store tells its contents and did not fail, 4 comes exactly where the file of this name is unreadable, want
+-- of memory aside
+abbrev pub TellsUnread : Option Contents → (before now : ℕ) → (name : List ℕ) → (status : ℕ) → Type 0
+TellsUnread content before now name status =
+    Stayed before now → status ≢ 8 → IfSome content (λ files. (status ≡ 4) ↔ IsUnreadable (files name))
 
--- the bytes spell a module, and no list of instructions makes them a small one
+-- the module is accepted, and no list of instructions makes it a small one
 pub record IsUnbuilt (bytes : List ℕ) : Type 0 where
-  pub parts : Parts
-  pub spelled : Spells bytes parts
+  pub accepted : is.IsVerdict host bytes is.Accepted
   pub not_small : (list : List SmallInstr) → ¬ Small bytes list
 
--- the file has bytes that spell no module
-pub record HasMalformed (content : Option Contents) (name : List ℕ) : Type 0 where
+-- the file has bytes of which this is the verdict
+pub record HasVerdict (content : Option Contents) (name : List ℕ) (said : Verdict) : Type 0 where
   pub bytes : List ℕ
   pub is_content : IsContent content name bytes
-  pub is_malformed : IsMalformed bytes
+  pub is_verdict : is.IsVerdict host bytes (meant_by said)
 
--- the file has bytes that spell a module, which is not a small one
+-- the file is an accepted module, which is not a small one
 pub record HasUnbuilt (content : Option Contents) (name : List ℕ) : Type 0 where
   pub bytes : List ℕ
   pub is_content : IsContent content name bytes

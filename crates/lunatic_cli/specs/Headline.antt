@@ -4,7 +4,7 @@
 -- place and moves only by recorded calls and ends.
 -- Two parts of the sentence have no definition yet: what it is that worlds bring to a process, and where a stream
 -- handle stands. They come with the calls that need them.
-use Rattle.std.specs.Prelude.{◌≡◌, ℕ, List, [], ◌∷◌, Option, Some, true, false}
+use Rattle.std.specs.Prelude.{◌≡◌, ℕ, List, [], ◌∷◌, Option, true, false}
 use Rattle.outside.specs.Files.{Contents}
 use Rattle.host_port.specs.declared.start.Start.{Start}
 use Rattle.journal.specs.declared.life.Birth.{Birth}
@@ -47,11 +47,9 @@ pub record Headline {P : Type 0} (setting : Setting P) (before after : List (Opt
   pub journal : OneJournal setting before after book
   pub written : AppendsAll old new (report_text book)
 
--- the words name a file, which is the small module with some list, and the headline holds of its run
-pub record HeadlineOfFile (content : Option Contents) (file : Option (List ℕ)) (before after : List (Option ℕ))
+-- the file of this name is the small module with some list, and the headline holds of its run
+pub record HeadlineOfFile (content : Option Contents) (name : List ℕ) (before after : List (Option ℕ))
     (old new : Option (List ℕ)) (book : Book) : Type 0 where
-  pub name : List ℕ
-  pub named : file ≡ Some name
   pub list : List SmallInstr
   pub is_small : HasSmall content name list
   pub holds : Headline (small_setting list) before after old new book

@@ -3,6 +3,7 @@ pub mod Texts
 pub mod Writing
 pub mod File
 pub mod Judged
+pub mod Checks
 pub mod Times
 pub mod Statuses
 pub mod Resting

@@ -1,5 +1,10 @@
--- The lines of refusals. Each ends with a line feed. The report of a run is the journal's (`report_text`).
-use Rattle.std.specs.Prelude.{ℕ, List, codes}
+-- The lines that are written where nothing ran. Each ends with a line feed. The report of a run is the journal's
+-- (`report_text`).
+use Rattle.std.specs.Prelude.{ℕ, List, ◌++◌, codes}
+use Rattle.std.specs.Fmt.{decimal}
+use Rattle.module_validator.specs.declared.answer.Place.TheVariants.{Rule, Function}
+use Rattle.module_validator.specs.declared.answer.Verdict.{Verdict}
+use Rattle.module_validator.specs.declared.answer.Verdict.TheVariants as verdict
 
 -- the words are refused
 abbrev pub words_line : List ℕ
@@ -9,10 +14,22 @@ words_line = codes "refused: words\n"
 abbrev pub file_line : List ℕ
 file_line = codes "refused: file 0\n"
 
--- the bytes of the module file spell no module
-abbrev pub malformed_line : List ℕ
-malformed_line = codes "refused: module 0 malformed\n"
-
--- the module has a form that is not built yet
+-- the module is accepted, and has a form that is not built yet
 abbrev pub unbuilt_line : List ℕ
 unbuilt_line = codes "refused: module 0 unbuilt\n"
+
+-- the module is accepted
+abbrev pub accepted_line : List ℕ
+accepted_line = codes "accepted\n"
+
+-- a line with a number at its end
+abbrev pub numbered_line : List ℕ → ℕ → List ℕ
+numbered_line text number = text ++ decimal number ++ codes "\n"
+
+-- the line of a verdict
+abbrev pub verdict_line : Verdict → List ℕ
+verdict_line verdict.Malformed = codes "refused: module 0 malformed\n"
+verdict_line (verdict.Outside rule) = numbered_line (codes "refused: module 0 outside rule ") rule
+verdict_line (verdict.Invalid (Rule rule)) = numbered_line (codes "refused: module 0 invalid rule ") rule
+verdict_line (verdict.Invalid (Function place)) = numbered_line (codes "refused: module 0 invalid function ") place
+verdict_line verdict.Accepted = accepted_line

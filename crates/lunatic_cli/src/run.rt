@@ -6,7 +6,7 @@ ghost use Rattle.journal.specs.Runs.{told};
 ghost use Rattle.process_table.specs.Seen.{setting_of};
 ghost use Rattle.wasm_form.specs.Small.{SmallInstr};
 ghost use Rattle.wasm_form.specs.Form.{IsSmallModule, module_of};
-ghost use Rattle.lunatic_cli.specs.declared.finish.Verdict.TheVariants.{Accepted};
+ghost use Rattle.lunatic_cli.specs.declared.finish.RunVerdict.TheVariants.{Judged};
 ghost use Rattle.lunatic_cli.specs.Ending.{WritesReport, RunsWhole, RunsNothing};
 ghost use Rattle.lunatic_cli.specs.Statuses.{EndsByLast};
 ghost use Rattle.lunatic_cli.specs.Headline.{OneJournal};
@@ -18,7 +18,7 @@ use crate::finish::{MEMORY, SINK};
 use crate::start::first_node;
 use crate::status::status_of;
 use crate::writing::write_all;
-use crate::{Finish, Verdict};
+use crate::{Finish, RunVerdict, Verdict};
 use host_port::Engine;
 use journal::{Journal, report};
 use outside::{Failed, Outside, Sink};
@@ -75,7 +75,7 @@ pub fn run<K: Sink, O: Outside>(
 ) -> Finish
     requires small { IsSmallModule «module» }
     requires some { 0 < vec_len outsides.old }
-    ensures verdict { result.verdict ≡ Some Accepted }
+    ensures verdict { result.verdict ≡ Some (Judged Verdict.Accepted) }
     ensures runs { (list : List SmallInstr) → «module» ≡ module_of list →
         RunsWhole (small_setting list) (map O.clock outsides.old.items) (map O.clock outsides.new.items)
         (K.written out.old) (K.written out.new) result.journal result.status
@@ -89,13 +89,9 @@ pub fn run<K: Sink, O: Outside>(
     ensures waits { NoneFalls (map O.waits outsides.old.items) (map O.waits outsides.new.items) }
     ensures rests { NoneFalls (map O.rests outsides.old.items) (map O.rests outsides.new.items) }
 {
-    let verdict = Some(Verdict::Accepted);
+    let verdict = Some(RunVerdict::Judged(Verdict::Accepted));
     let Ok(node) = first_node(alloc, module) else {
-        return Finish {
-            status: MEMORY,
-            verdict,
-            journal: Journal::new(alloc),
-        };
+        return Finish::without_run(alloc, MEMORY, verdict);
     };
     let journal = run_first(alloc, node, outsides);
     let status = write_report(alloc, &journal, out);

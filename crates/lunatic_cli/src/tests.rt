@@ -3,7 +3,7 @@ ghost use Rattle.std.specs.List.{list_all};
 ghost use Rattle.host_port.specs.HostTable.{row_of};
 ghost use Rattle.journal.specs.Report.{IsReportable};
 
-use crate::{Verdict, lunatic, run_alone};
+use crate::{RunVerdict, Verdict, lunatic, run_alone};
 use fuel_stepper::{SmallInstance, SmallModule};
 use host_port::{Ask, Bytes, Limits, Params, Start};
 use journal::{Birth, Ended, Entry, Halt, Journal, Side, report};
@@ -101,11 +101,16 @@ fn files_are_judged_and_run(rt: HostRuntime) -> Result<(), Fail> {
     let alloc = rt.alloc();
     let mut files = store(alloc, vec![in alloc; 4u64]?)?;
     for (name, status, verdict, text) in [
-        ("first", 0, Some(Verdict::Accepted), REPORT),
+        (
+            "first",
+            0,
+            Some(RunVerdict::Judged(Verdict::Accepted)),
+            REPORT,
+        ),
         (
             "header",
             3,
-            Some(Verdict::Unbuilt),
+            Some(RunVerdict::Unbuilt),
             b"refused: module 0 unbuilt\n".as_slice(),
         ),
         ("none", 4, None, b"refused: file 0\n".as_slice()),
@@ -130,7 +135,7 @@ fn files_are_judged_and_run(rt: HostRuntime) -> Result<(), Fail> {
 }
 
 /// The status and the verdict for a file with these bytes.
-fn judged(alloc: Global, bytes: Vec<u8>) -> Result<(u8, Option<Verdict>), Fail> {
+fn judged(alloc: Global, bytes: Vec<u8>) -> Result<(u8, Option<RunVerdict>), Fail> {
     let file = (String::from_str(alloc, "file")?, bytes);
     let mut files = MemFiles::new(vec![in alloc; file]?, Vec::new(alloc));
     let mut out = MemSink::new(alloc, 100, 100, Vec::new(alloc), Vec::new(alloc))?;
@@ -156,18 +161,21 @@ fn what_spells_no_module_is_malformed(rt: HostRuntime) -> Result<(), Fail> {
     let alloc = rt.alloc();
     for length in 0..39usize {
         let verdict = if length == 8 || length == 14 {
-            Verdict::Unbuilt
+            RunVerdict::Unbuilt
         } else {
-            Verdict::Malformed
+            RunVerdict::Judged(Verdict::Malformed)
         };
         let front = FIRST[..length].to_vec(alloc)?;
         assert_eq!(rt; judged(alloc, front)?, (3, Some(verdict)), "of {length}");
     }
     for (size, verdict) in [
-        ([0x87, 0x80, 0x80, 0x80, 0x00].as_slice(), Verdict::Unbuilt),
+        (
+            [0x87, 0x80, 0x80, 0x80, 0x00].as_slice(),
+            RunVerdict::Unbuilt,
+        ),
         (
             [0x87, 0x80, 0x80, 0x80, 0x80, 0x00].as_slice(),
-            Verdict::Malformed,
+            RunVerdict::Judged(Verdict::Malformed),
         ),
     ] {
         assert_eq!(rt; judged(alloc, sized(alloc, size)?)?, (3, Some(verdict)));
@@ -179,7 +187,7 @@ fn what_spells_no_module_is_malformed(rt: HostRuntime) -> Result<(), Fail> {
 fn other_words_are_refused(rt: HostRuntime) -> Result<(), Fail> {
     let alloc = rt.alloc();
     let mut files = store(alloc, Vec::new(alloc))?;
-    let cases: [&[&str]; 7] = [
+    let cases: [&[&str]; 12] = [
         &[],
         &["frob"],
         &["frob", "first"],
@@ -187,6 +195,11 @@ fn other_words_are_refused(rt: HostRuntime) -> Result<(), Fail> {
         &["run", "-x"],
         &["run", "first", "first"],
         &["run", ""],
+        &["check"],
+        &["check", "-a"],
+        &["check", "first", "first"],
+        &["check", ""],
+        &["gen", "2"],
     ];
     for texts in cases {
         let mut out = MemSink::new(alloc, 100, 1, Vec::new(alloc), Vec::new(alloc))?;

@@ -1,15 +1,32 @@
-ghost use Rattle.std.specs.Prelude.{◌≡◌, map, string_bytes};
-ghost use Rattle.std.specs.Option.{option_copied};
-ghost use Rattle.lunatic_cli.specs.Words.{file_of, is_file_name as names_file};
+ghost use Rattle.std.specs.Prelude.{◌≡◌, map, option_map, string_bytes};
+ghost use Rattle.lunatic_cli.specs.Words.{asked_of, command_of, is_file_name as names_file, meant_by};
 
-/// The file that the words ask to run, or `None` where they are refused: they are not `run` and one file name.
-pub fn file_to_run(words: &[String]) -> Option<&str>
-    ensures { option_copied result ≡ file_of (map string_bytes words.now) }
+/// What the words ask for.
+#[derive(Clone, Copy, Debug)]
+pub enum Command<'a> {
+    /// To run the file of this name.
+    Run(&'a str),
+    /// To check the file of this name.
+    Check(&'a str),
+}
+
+/// What the words ask for, or `None` where they are refused: they are not `run` or `check` and one file name.
+pub fn read_command(words: &[String]) -> Option<Command<'_>>
+    ensures { option_map meant_by result ≡ command_of (map string_bytes words.now) }
 {
     match words {
-        [command, name] if command.as_str() == "run" && is_file_name(name.as_str()) => {
-            Some(name.as_str())
-        }
+        [first, name] if is_file_name(name.as_str()) => asked(first.as_str(), name.as_str()),
+        _ => None,
+    }
+}
+
+/// What the first word asks for of the file of this name.
+fn asked<'a>(first: &str, name: &'a str) -> Option<Command<'a>>
+    ensures { option_map meant_by result ≡ asked_of first.now name.now }
+{
+    match first {
+        "run" => Some(Command::Run(name)),
+        "check" => Some(Command::Check(name)),
         _ => None,
     }
 }

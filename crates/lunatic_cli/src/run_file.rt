@@ -1,0 +1,149 @@
+ghost use Rattle.std.specs.Prelude.{◌≡◌, ◌≢◌, ◌<◌, ◌≤◌, ◌⊎◌, ◌↔◌, ℕ, List, Option, Some, IfOk, IfErr, IfSome, IsSome, IsSomeAnd, true, map, vec_len};
+ghost use Rattle.std.specs.List.{list_any};
+ghost use Rattle.outside.specs.Causes.{Rose, Stayed};
+ghost use Rattle.journal.specs.Book.{IsBlank};
+ghost use Rattle.wasm_form.specs.Small.{SmallInstr};
+ghost use Rattle.wasm_form.specs.Form.{module_of};
+ghost use Rattle.wasm_form.specs.Verdict as is;
+ghost use Rattle.module_validator.specs.Host.{host};
+ghost use Rattle.lunatic_cli.specs.declared.finish.RunVerdict.TheVariants.{Judged};
+ghost use Rattle.lunatic_cli.specs.File.{HasSmall, TellsUnread};
+ghost use Rattle.lunatic_cli.specs.Headline.{HeadlineOfFile};
+ghost use Rattle.lunatic_cli.specs.Ending.{EndsRun, CompletesRun};
+ghost use Rattle.lunatic_cli.specs.Statuses.{is_stall, is_starve};
+ghost use Rattle.lunatic_cli.specs.Times.{NoneFalls, NoneGoesBack};
+
+use crate::finish::{MEMORY, MODULE};
+use crate::judge::judge;
+use crate::laws::{accepted_alone, small_is_accepted};
+use crate::run::run;
+use crate::telling::{tell_unjudged, tell_verdict, write_refusal};
+use crate::{Finish, RunVerdict, Verdict};
+use module_reader::read_small;
+use outside::{Files, Outside, Sink};
+use std::alloc::Global;
+use wasm_form::Module;
+
+/// The module to run from the file of this name: the file is read and judged, and accepted modules that are small are
+/// run. Else the end of the run, in which nothing ran.
+fn module_to_run<F: Files, K: Sink>(
+    alloc: Global,
+    files: &mut F,
+    out: &mut K,
+    name: &str,
+) -> Result<Module, Finish>
+    ensures small { IfOk result (λ m. (list : List SmallInstr) × (file : HasSmall (F.content files.old) name.now list)
+        × is.IsVerdict host file.bytes is.Accepted × (m ≡ module_of list)) }
+    ensures silent { IfOk result (λ _. out.new ≡ out.old) }
+    ensures ends { IfErr result (λ finish. (before after : List (Option ℕ)) →
+        EndsRun (F.content files.old) name.now (record {
+          sink = record {
+            faults_before = K.faults out.old;
+            faults_after = K.faults out.new;
+            before = K.written out.old;
+            after = K.written out.new;
+          };
+          clocks_before = before;
+          clocks_after = after;
+        }) finish.journal finish.status finish.verdict) }
+    ensures unaccepted { IfErr result (λ finish. finish.verdict ≢ Some (Judged Verdict.Accepted)) }
+    ensures blank { IfErr result (λ finish. IsBlank finish.journal) }
+    ensures refused { IfErr result (λ finish. (finish.status ≡ 3) ↔ IsSome finish.verdict) }
+    ensures statuses { IfErr result (λ finish. (finish.status ≡ 3) ⊎ ((finish.status ≡ 4) ⊎ (finish.status ≡ 8))) }
+    ensures unread { IfErr result (λ finish. finish.status ≡ 4
+        → Rose (F.faults files.old) (F.faults files.new) ⊎ Rose (F.lacks files.old) (F.lacks files.new)) }
+    ensures unread_told { IfErr result (λ finish. TellsUnread (F.content files.old) (F.faults files.old)
+        (F.faults files.new) name.now finish.status) }
+    ensures completes { IfErr result (λ finish. Stayed (F.faults files.old) (F.faults files.new)
+        → Stayed (F.lacks files.old) (F.lacks files.new)
+        → IfSome (F.content files.old) (λ _. CompletesRun (F.content files.old) name.now finish.status)) }
+    ensures content { F.content files.new ≡ F.content files.old }
+    ensures file_faults { F.faults files.old ≤ F.faults files.new }
+    ensures file_lacks { F.lacks files.old ≤ F.lacks files.new }
+    ensures sink_faults { K.faults out.old ≤ K.faults out.new }
+{
+    // So an accepted file is not refused, and a small one is accepted.
+    accepted_alone();
+    small_is_accepted();
+    let file = match judge(alloc, files, name) {
+        Ok(file) => file,
+        Err(why) => return Err(Finish::of_check(alloc, tell_unjudged(out, why))),
+    };
+    match file.verdict {
+        Verdict::Accepted => match read_small(alloc, file.bytes.as_slice()) {
+            Ok(Some(module)) => Ok(module),
+            Ok(None) => {
+                write_refusal(out, b"refused: module 0 unbuilt\n");
+                Err(Finish::without_run(alloc, MODULE, Some(RunVerdict::Unbuilt)))
+            }
+            Err(_) => Err(Finish::without_run(alloc, MEMORY, None)),
+        },
+        refused => Err(Finish::of_check(alloc, tell_verdict(alloc, out, refused))),
+    }
+}
+
+/// Reads the file of this name and judges it as a module, runs the module with the first of the outsides, and writes
+/// the report.
+pub fn run_call<F: Files, K: Sink, O: Outside>(
+    alloc: Global,
+    files: &mut F,
+    out: &mut K,
+    outsides: &mut Vec<O>,
+    name: &str,
+) -> Finish
+    requires some { 0 < vec_len outsides.old }
+
+    // Where a run is told to its end, what is written is the report of one journal.
+    ensures headline { result.status ≢ 3 → result.status ≢ 4 → result.status ≢ 5 → result.status ≢ 8 →
+        HeadlineOfFile (F.content files.old) name.now
+        (map O.clock outsides.old.items) (map O.clock outsides.new.items)
+        (K.written out.old) (K.written out.new) result.journal }
+
+    // What is judged and what is written, with each status.
+    ensures ends { EndsRun (F.content files.old) name.now (record {
+      sink = record {
+        faults_before = K.faults out.old;
+        faults_after = K.faults out.new;
+        before = K.written out.old;
+        after = K.written out.new;
+      };
+      clocks_before = map O.clock outsides.old.items;
+      clocks_after = map O.clock outsides.new.items;
+    }) result.journal result.status result.verdict }
+    ensures stalled { list_any is_stall result.journal.entries ≡ true →
+        (result.status ≡ 6) ⊎ ((result.status ≡ 5) ⊎ (result.status ≡ 8)) }
+    ensures stalls { result.status ≡ 6 → list_any is_stall result.journal.entries ≡ true }
+    ensures starved { list_any is_starve result.journal.entries ≡ true → result.status ≡ 8 }
+    ensures blank { result.verdict ≢ Some (Judged Verdict.Accepted) → IsBlank result.journal }
+
+    // When each status comes.
+    ensures words { result.status ≢ 2 }
+    ensures refused { (result.status ≡ 3) ↔ IsSomeAnd result.verdict (λ said. said ≢ Judged Verdict.Accepted) }
+    ensures unread { result.status ≡ 4
+        → Rose (F.faults files.old) (F.faults files.new) ⊎ Rose (F.lacks files.old) (F.lacks files.new) }
+    ensures unread_told { TellsUnread (F.content files.old) (F.faults files.old) (F.faults files.new) name.now
+        result.status }
+    ensures unwritten { result.status ≡ 5 → Rose (K.faults out.old) (K.faults out.new) }
+    ensures completes { Stayed (F.faults files.old) (F.faults files.new)
+        → Stayed (F.lacks files.old) (F.lacks files.new)
+        → Stayed (K.faults out.old) (K.faults out.new)
+        → IfSome (F.content files.old) (λ _. CompletesRun (F.content files.old) name.now result.status) }
+
+    // What the outside keeps.
+    ensures untouched { result.verdict ≢ Some (Judged Verdict.Accepted) → outsides.new.items ≡ outsides.old.items }
+    ensures content { F.content files.new ≡ F.content files.old }
+    ensures file_faults { F.faults files.old ≤ F.faults files.new }
+    ensures file_lacks { F.lacks files.old ≤ F.lacks files.new }
+    ensures sink_faults { K.faults out.old ≤ K.faults out.new }
+    ensures clocks { NoneGoesBack (map O.clock outsides.old.items) (map O.clock outsides.new.items) }
+    ensures faults { NoneFalls (map O.faults outsides.old.items) (map O.faults outsides.new.items) }
+    ensures waits { NoneFalls (map O.waits outsides.old.items) (map O.waits outsides.new.items) }
+    ensures rests { NoneFalls (map O.rests outsides.old.items) (map O.rests outsides.new.items) }
+{
+    // So a small module is not refused.
+    accepted_alone();
+    match module_to_run(alloc, files, out, name) {
+        Ok(module) => run(alloc, module, out, outsides),
+        Err(finish) => finish,
+    }
+}
