@@ -1,0 +1,2 @@
+//! What WebAssembly does, by trees: the definitions of execution, and their laws.
+#![tactic(auto)]
