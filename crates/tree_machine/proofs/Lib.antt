@@ -1,1 +1,3 @@
-mod Worked
+pub mod Worked
+mod WorkedModules
+pub mod Reading

@@ -23,7 +23,7 @@ use Rattle.tree_machine.specs.Instantiation.{value_of, segments_lie_in}
 use Rattle.tree_machine.specs.Begin.{entry_of, begin, begun}
 use Rattle.tree_machine.specs.Run.{run, point_at, at}
 
-abbrev start : (fuel : ℕ) → Start
+abbrev pub start : (fuel : ℕ) → Start
 start fuel = record {
   pid = 1;
   «module» = 0;
@@ -32,16 +32,16 @@ start fuel = record {
   limits = record { pages = 64; fuel = fuel; traffic = 67108864 };
 }
 
-abbrev bare : ℕ → Instr
+abbrev pub bare : ℕ → Instr
 bare code = record { code = code; imm = imm.None }
 
-abbrev i32 : ℕ → Instr
+abbrev pub i32 : ℕ → Instr
 i32 n = record { code = 0x41; imm = imm.I32 n }
 
-abbrev index : ℕ → ℕ → Instr
+abbrev pub index : ℕ → ℕ → Instr
 index code n = record { code = code; imm = imm.Index n }
 
-abbrev body : List Instr → Parts
+abbrev pub body : List Instr → Parts
 body list = small_parts (list ++ end_instr ∷ [])
 
 -- i32.const 42, drop: after two instructions the run is over

@@ -18,3 +18,6 @@ pub mod Replies
 pub mod Instantiation
 pub mod Begin
 pub mod Run
+pub mod RunLaws
+pub mod CallLaws
+pub mod AskLaws

@@ -1,14 +1,14 @@
 -- The run of a module.
 use Rattle.std.specs.Prelude.{◌≡◌, ℕ, zero, suc, ◌&&◌, Bool, cond, nat_le, List, [], ◌∷◌, Any, Option, Some, None, option_map, option_and_then, is_none}
 use Rattle.wasm_ops.specs.declared.trap.Trap.{Trap}
-use Rattle.host_port.specs.HostTable.{Row, row_of_import}
 use Rattle.host_port.specs.Areas.{request_of}
 use Rattle.host_port.specs.Standing.{Standing, State, Ready, Asking, Finished, Trapped, Exhausted}
 use Rattle.host_port.specs.declared.ask.Ask.{Ask}
 use Rattle.host_port.specs.declared.call.Call.{Call}
 use Rattle.host_port.specs.declared.start.Start.{Start}
-use Rattle.wasm_form.specs.declared.parts.Import.{Import}
+use Rattle.wasm_form.specs.declared.types.FuncType.{FuncType}
 use Rattle.wasm_form.specs.declared.parts.Parts.{Parts}
+use Rattle.tree_machine.specs.Functions.{Host, callee_of}
 use Rattle.tree_machine.specs.Config.{Config, bytes_of}
 use Rattle.tree_machine.specs.Point.{Point, point, shown}
 use Rattle.tree_machine.specs.Step.{step}
@@ -77,7 +77,6 @@ point_at m start calls n =
 unfoldable pub at : Parts → Start → List Call → ℕ → Option Standing
 at m start calls n = option_map shown (point_at m start calls n)
 
--- the module imports a host call with this number
+-- a function of the module is the host call with this number
 abbrev pub may_ask : Parts → (call : ℕ) → Type 0
-may_ask m call =
-    Any (λ (i : Import). (row : Row) × (row_of_import i.«module» i.name ≡ Some row) × (row.call ≡ call)) m.imports
+may_ask m call = (index : ℕ) × (ty : FuncType) × (callee_of m index ≡ Some (Host ty call))
