@@ -1,13 +1,11 @@
 -- Small modules, run by the definitions.
-use Rattle.std.proofs.Common.{◌≡◌, ℕ, ◌^◌, ◌-◌, List, [], ◌∷◌, ◌++◌, Option, Some, None, refl, codes}
+use Rattle.std.proofs.Common.{◌≡◌, ℕ, ◌^◌, ◌-◌, List, [], ◌∷◌, ◌++◌, Some, None, refl, codes}
 use Rattle.wasm_ops.specs.declared.trap.Trap.TheVariants as traps
-use Rattle.host_port.specs.Standing.{State, Ready, Asking, Finished, Trapped, Exhausted, state_of}
-use Rattle.host_port.specs.declared.stop.Spent.TheVariants as limit
+use Rattle.host_port.specs.Standing.{Ready, Finished, Trapped, state_of}
 use Rattle.host_port.specs.declared.start.Start.{Start}
 use Rattle.wasm_form.specs.declared.instr.Instr.{Instr}
-use Rattle.wasm_form.specs.declared.instr.Imm.{Imm}
 use Rattle.wasm_form.specs.declared.instr.Imm.TheVariants as imm
-use Rattle.wasm_form.specs.declared.value_type.ValType.TheVariants.{I32, I64}
+use Rattle.wasm_form.specs.declared.value_type.ValType.TheVariants.{I32}
 use Rattle.wasm_form.specs.declared.parts.Parts.{Parts}
 use Rattle.wasm_form.specs.Trees.{end_instr, block_instr, loop_instr, if_instr, else_instr}
 use Rattle.wasm_form.specs.Form.{small_parts}

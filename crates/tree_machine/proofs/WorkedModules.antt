@@ -1,14 +1,12 @@
 -- Modules with functions, a table, a memory and imports, run by the definitions.
-use Rattle.std.proofs.Common.{◌≡◌, ℕ, ◌+◌, ◌^◌, ◌-◌, ◌*◌, List, [], ◌∷◌, ◌++◌, replicate, Option, Some, None, refl, true, codes}
+use Rattle.std.proofs.Common.{◌≡◌, ℕ, ◌+◌, ◌^◌, ◌-◌, ◌*◌, List, [], ◌∷◌, ◌++◌, replicate, Some, None, refl, true, codes}
 use Rattle.wasm_ops.specs.declared.num.Num.TheVariants as num
 use Rattle.wasm_ops.specs.declared.trap.Trap.TheVariants as traps
-use Rattle.host_port.specs.Areas.{request_of}
 use Rattle.host_port.specs.HostTable.{areas_read, areas_of}
-use Rattle.host_port.specs.Standing.{State, Ready, Asking, Finished, Trapped, Exhausted, state_of}
+use Rattle.host_port.specs.Standing.{Ready, Asking, Finished, Trapped, Exhausted, state_of}
 use Rattle.host_port.specs.declared.stop.Spent.TheVariants as limit
 use Rattle.host_port.specs.declared.ask.Ask.{Ask}
 use Rattle.host_port.specs.declared.call.Call.{Call}
-use Rattle.host_port.specs.declared.start.Start.{Start}
 use Rattle.host_port.specs.declared.start.StartRefusal.TheVariants.{NoExport, BadParams, PagesOver, SegmentOut}
 use Rattle.wasm_form.specs.declared.instr.Instr.{Instr}
 use Rattle.wasm_form.specs.declared.instr.Imm.TheVariants as imm
@@ -20,7 +18,7 @@ use Rattle.wasm_form.specs.declared.value_type.ValType.TheVariants.{I32, I64}
 use Rattle.wasm_form.specs.declared.parts.Parts.{Parts}
 use Rattle.wasm_form.specs.declared.parts.ExportKind.TheVariants as kind
 use Rattle.wasm_form.specs.declared.parts.Imported.TheVariants as imported
-use Rattle.wasm_form.specs.Trees.{end_instr, block_instr, loop_instr, if_instr, else_instr}
+use Rattle.wasm_form.specs.Trees.{end_instr, if_instr}
 use Rattle.tree_machine.specs.Trees.{read, tree_of}
 use Rattle.tree_machine.specs.Instructions.{plain_of}
 use Rattle.tree_machine.specs.Functions.{Function, own_function, callee_of}

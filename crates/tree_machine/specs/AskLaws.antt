@@ -1,16 +1,14 @@
 -- Lemmas that prove that a run asks only what its module may ask; the proof of that law cites files of specs/ alone.
-use Rattle.std.proofs.Common.{◌≡◌, ◌≢◌, ◌+◌, ℕ, zero, suc, List, [], ◌∷◌, ◌++◌, Option, Some, None, true, false, Bool, cond, length, nat_le, nat_eq, nat_lt, drop, take, reverse, replicate, slice_get, slice_set, option_map, option_and_then, refl, sym, ◌∙◌, ap}
-use Rattle.wasm_ops.specs.declared.trap.Trap.{Trap}
+use Rattle.std.proofs.Common.{◌≡◌, ◌+◌, ℕ, zero, suc, List, [], ◌∷◌, Option, Some, None, true, false, Bool, cond, length, nat_le, nat_lt, drop, take, reverse, slice_get, slice_set, option_map, refl, ◌∙◌, ap}
 use Rattle.wasm_ops.specs.declared.trap.Trap.TheVariants as traps
 use Rattle.wasm_ops.specs.Table.{width_of}
 use Rattle.linear_memory.specs.Bytes.{low_bytes, written}
 use Rattle.linear_memory.specs.Contents.{Contents}
 use Rattle.host_port.specs.Areas.{request_of}
-use Rattle.host_port.specs.Standing.{State, Standing, Ready, Asking, Finished, Trapped, Exhausted, state_of}
+use Rattle.host_port.specs.Standing.{State, Ready, Asking, Finished, Trapped, Exhausted, state_of}
 use Rattle.host_port.specs.declared.ask.Ask.{Ask}
 use Rattle.host_port.specs.declared.call.Call.{Call}
 use Rattle.host_port.specs.declared.start.Start.{Start}
-use Rattle.host_port.specs.declared.stop.Spent.{Spent}
 use Rattle.host_port.specs.declared.stop.Spent.TheVariants as limit
 use Rattle.wasm_form.specs.declared.types.FuncType.{FuncType}
 use Rattle.wasm_form.specs.declared.parts.Parts.{Parts}
@@ -21,17 +19,17 @@ use Rattle.tree_machine.specs.Functions.{Callee, Own, Host, type_of, callee_of, 
 use Rattle.tree_machine.specs.Config.{Config, Cont, Frame, bytes_of, frame_of, with_operands, with_frames}
 use Rattle.tree_machine.specs.Outcomes.{Effect, Gives, Fails, Undefined, Outcome, Goes, Calls, Traps, Exceeds, Stuck, to_frame, to_operands}
 use Rattle.tree_machine.specs.Variables.{global_set}
-use Rattle.tree_machine.specs.MemoryAccess.{store, store_at}
+use Rattle.tree_machine.specs.MemoryAccess.{store}
 use Rattle.tree_machine.specs.MemorySize.{grow, pages_in, grown, minus_one}
 use Rattle.tree_machine.specs.Limits.{judged, places, most_values, most_frames}
-use Rattle.tree_machine.specs.Calls.{ask_of, enter, invoke, invoke_with, call, call_typed, call_element, call_indirect}
-use Rattle.tree_machine.specs.Point.{Point, point, shown, settle, enter_next}
+use Rattle.tree_machine.specs.Calls.{invoke, call, call_typed, call_element, call_indirect}
+use Rattle.tree_machine.specs.Point.{Point, point, shown, settle}
 use Rattle.tree_machine.specs.Step.{execute_plain, execute, with_rest, next_of, next_in, next_among, next, stands_after, step}
 use Rattle.tree_machine.specs.Replies.{same_request, replied}
 use Rattle.tree_machine.specs.Begin.{begun, instance_of, invocations_of}
-use Rattle.tree_machine.specs.Run.{Course, course, answer, answered, advance, advanced, run, point_at, at, may_ask}
-use Rattle.tree_machine.specs.RunLaws.{IsAt, at_point}
-use Rattle.tree_machine.specs.CallLaws.{Rests, settle_rests, next_rests, replied_rests, course_is, answered_is, Advances, and_then_is, advance_is}
+use Rattle.tree_machine.specs.Run.{course, answer, advanced, run, point_at, at, may_ask}
+use Rattle.tree_machine.specs.RunLaws.{at_point}
+use Rattle.tree_machine.specs.CallLaws.{settle_rests, next_rests, replied_rests, course_is, answered_is, and_then_is, advance_is}
 
 -- where the host is asked, that is what the module may ask
 abbrev IsAllowed : Parts → Outcome → Type 0

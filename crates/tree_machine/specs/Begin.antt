@@ -1,5 +1,5 @@
 -- The begin of a life: what is refused, and where the run stands before its first instruction (Core 1.0, 4.5.4 and 4.5.5).
-use Rattle.std.specs.Prelude.{ℕ, ◌&&◌, Bool, true, false, cond, nat_le, List, [], ◌∷◌, ◌++◌, map, find, slice_get, Option, Some, None, option_map, option_and_then, option_to_list, is_some}
+use Rattle.std.specs.Prelude.{ℕ, ◌&&◌, Bool, true, false, cond, nat_le, List, [], ◌++◌, map, find, slice_get, Option, Some, None, option_map, option_and_then, option_to_list, is_some}
 use Rattle.std.specs.Cmp.Lexicographic.{pointwise}
 use Rattle.host_port.specs.HostTable.{same_text}
 use Rattle.host_port.specs.TypedValue.{TypedValue}

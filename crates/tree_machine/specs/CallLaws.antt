@@ -1,5 +1,5 @@
 -- Lemmas on the calls of a run: more calls, a reply, and fewer instructions. They stand here for the crates above.
-use Rattle.std.proofs.Common.{◌≡◌, ◌≢◌, ◌≤◌, ◌<◌, ℕ, zero, suc, ◌+◌, ◌-◌, ◌&&◌, List, [], ◌∷◌, ◌++◌, Option, Some, None, true, false, Bool, cond, nat_eq, option_map, option_and_then, arith, refl, sym, ◌∙◌, ap, add-one, append_assoc}
+use Rattle.std.proofs.Common.{◌≡◌, ◌≢◌, ◌≤◌, ◌<◌, ℕ, zero, suc, ◌+◌, ◌-◌, List, [], ◌∷◌, ◌++◌, Option, Some, None, true, false, Bool, cond, nat_eq, option_map, option_and_then, arith, refl, sym, ◌∙◌, ap, append_assoc}
 use Rattle.std.proofs.lemmas.Bool.Decides.{nat_tests}
 use Rattle.std.specs.Cmp.Lexicographic.{pointwise}
 use Rattle.host_port.specs.Areas.{request_of}
@@ -17,10 +17,10 @@ use Rattle.tree_machine.specs.Config.{Config, Frame, Invocation, bytes_of}
 use Rattle.tree_machine.specs.Exits.{settled}
 use Rattle.tree_machine.specs.Point.{Point, point, unless_left, entered, enter_next, settle}
 use Rattle.tree_machine.specs.Step.{step}
-use Rattle.tree_machine.specs.Replies.{same_ask, same_truth, same_request, replied}
-use Rattle.tree_machine.specs.Begin.{begin, begun}
-use Rattle.tree_machine.specs.Run.{Course, course, answer, answer_ask, answered, advance, advanced, run, all_used, point_at}
-use Rattle.tree_machine.specs.RunLaws.{IsAt, at_point, point_of, answer_none}
+use Rattle.tree_machine.specs.Replies.{same_truth, same_request, replied}
+use Rattle.tree_machine.specs.Begin.{begun}
+use Rattle.tree_machine.specs.Run.{Course, course, answer, answered, advance, advanced, run, all_used, point_at}
+use Rattle.tree_machine.specs.RunLaws.{at_point, point_of, answer_none}
 
 -- the run waits for no reply
 abbrev pub Rests : State → Type 0

@@ -1,7 +1,7 @@
 -- Blocks, loops, ifs and branches (Core 1.0, 4.4.5 and 4.4.6).
 use Rattle.std.specs.Prelude.{ℕ, zero, suc, pred, List, [], ◌∷◌, ◌++◌, cond, nat_eq, nat_le, length, take, slice_index_or, Option, Some, None}
 use Rattle.wasm_form.specs.declared.value_type.ValType.{ValType}
-use Rattle.wasm_form.specs.Trees.{Code, Empty, LoopOf}
+use Rattle.wasm_form.specs.Trees.{Code, LoopOf}
 use Rattle.tree_machine.specs.Config.{Label, Leave, Again, Cont, cont, Frame, with_operands}
 use Rattle.tree_machine.specs.Outcomes.{Effect, Gives, Undefined}
 

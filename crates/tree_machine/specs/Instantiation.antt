@@ -1,5 +1,5 @@
 -- What instantiation makes of a module: globals, table and memory (Core 1.0, 4.5.4).
-use Rattle.std.specs.Prelude.{ℕ, ◌+◌, ◌*◌, ◌&&◌, Bool, true, false, nat_le, min, List, [], ◌∷◌, ◌++◌, length, map, fold, take, drop, replicate, slice_get, Option, Some, None, option_map, unwrap_or}
+use Rattle.std.specs.Prelude.{ℕ, ◌+◌, ◌*◌, ◌&&◌, Bool, false, nat_le, min, List, [], ◌++◌, length, map, fold, take, drop, replicate, slice_get, Option, Some, None, unwrap_or}
 use Rattle.std.specs.List.{list_all}
 use Rattle.linear_memory.specs.Bytes.{written}
 use Rattle.linear_memory.specs.Contents.{Contents, page_size}

@@ -1,5 +1,5 @@
 -- The instructions that open no block, each with its immediates (Core 1.0, 2.4); numeric ones by their codes.
-use Rattle.std.specs.Prelude.{ℕ, ◌==◌, if◌then◌else◌, nat_le, Option, Some, None, option_map, is_some}
+use Rattle.std.specs.Prelude.{ℕ, ◌==◌, if◌then◌else◌, nat_le, Option, Some, None, option_map}
 use Rattle.wasm_ops.specs.Table.{kind_of, takes_one}
 use Rattle.wasm_ops.specs.declared.instruction.Kind.{Kind}
 use Rattle.wasm_ops.specs.declared.instruction.Kind.TheVariants as kinds

@@ -1,7 +1,7 @@
 -- The limits of frames and values.
 use Rattle.std.specs.Prelude.{ℕ, ◌+◌, pred, List, length, sum_by, cond, nat_le}
 use Rattle.host_port.specs.declared.stop.Spent.TheVariants as limit
-use Rattle.tree_machine.specs.Config.{Cont, Frame, Config}
+use Rattle.tree_machine.specs.Config.{Cont, Frame}
 use Rattle.tree_machine.specs.Outcomes.{Outcome, Goes, Calls, Traps, Exceeds, Stuck}
 
 -- the most frames

@@ -1,6 +1,5 @@
 -- The run of a module.
-use Rattle.std.specs.Prelude.{◌≡◌, ℕ, zero, suc, ◌&&◌, Bool, cond, nat_le, List, [], ◌∷◌, Any, Option, Some, None, option_map, option_and_then, is_none}
-use Rattle.wasm_ops.specs.declared.trap.Trap.{Trap}
+use Rattle.std.specs.Prelude.{◌≡◌, ℕ, zero, suc, ◌&&◌, cond, nat_le, List, [], ◌∷◌, Option, Some, None, option_map, option_and_then, is_none}
 use Rattle.host_port.specs.Areas.{request_of}
 use Rattle.host_port.specs.Standing.{Standing, State, Ready, Asking, Finished, Trapped, Exhausted}
 use Rattle.host_port.specs.declared.ask.Ask.{Ask}

@@ -1,21 +1,20 @@
 -- Lemmas on runs. They stand here since the proof of a law that `Engine` asks cites files of specs/ alone.
-use Rattle.std.proofs.Common.{◌≡◌, ◌≢◌, ◌≤◌, ◌<◌, ℕ, zero, suc, ◌+◌, ◌&&◌, IsSome, List, [], ◌∷◌, ◌++◌, Option, Some, None, true, false, Bool, cond, nat_le, nat_eq, is_none, slice_get, option_map, option_and_then, arith, refl, sym, ◌∙◌, ap, add-one, append_assoc}
+use Rattle.std.proofs.Common.{◌≡◌, ◌≢◌, ◌≤◌, ◌<◌, ℕ, suc, ◌+◌, ◌&&◌, IsSome, List, [], ◌∷◌, Option, Some, None, true, false, Bool, cond, nat_le, is_none, slice_get, option_map, option_and_then, arith, refl, ◌∙◌, add-one}
 use Rattle.std.proofs.lemmas.Bool.Decides.{nat_tests}
-use Rattle.host_port.specs.Standing.{State, Standing, Ready, Asking, Finished, Trapped, Exhausted, state_of}
-use Rattle.host_port.specs.declared.ask.Ask.{Ask}
+use Rattle.host_port.specs.Standing.{State, Ready, Asking, Finished, Trapped, Exhausted}
 use Rattle.host_port.specs.declared.call.Call.{Call}
 use Rattle.host_port.specs.declared.start.Start.{Start}
 use Rattle.host_port.specs.declared.start.StartRefusal.{StartRefusal}
-use Rattle.host_port.specs.declared.start.StartRefusal.TheVariants.{NoMemory, NoExport, BadParams, PagesOver, SegmentOut}
+use Rattle.host_port.specs.declared.start.StartRefusal.TheVariants.{NoMemory, BadParams, PagesOver, SegmentOut}
 use Rattle.wasm_form.specs.declared.parts.Parts.{Parts}
-use Rattle.tree_machine.specs.Functions.{Function, own_function}
-use Rattle.tree_machine.specs.Config.{Config, bytes_of}
+use Rattle.tree_machine.specs.Functions.{Function}
+use Rattle.tree_machine.specs.Config.{Config}
 use Rattle.tree_machine.specs.Point.{Point, point, shown}
 use Rattle.tree_machine.specs.Step.{step}
 use Rattle.tree_machine.specs.Begin.{begin, begun, refusal_of, has_params, least_pages}
 use Rattle.tree_machine.specs.Instantiation.{segments_lie_in}
 use Rattle.wasm_form.specs.Context.{memories_of}
-use Rattle.tree_machine.specs.Run.{Course, course, answer, answered, advance, advanced, run, used_up, all_used, point_at, at}
+use Rattle.tree_machine.specs.Run.{Course, course, answer, advance, run, used_up, all_used, point_at, at}
 
 no_memory_of : (params pages segments : Bool) →
     cond params (cond pages (cond segments None (Some SegmentOut)) (Some PagesOver)) (Some BadParams) ≢ Some NoMemory

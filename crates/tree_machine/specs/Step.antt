@@ -1,5 +1,5 @@
 -- What one instruction makes of a configuration (Core 1.0, 4.4).
-use Rattle.std.specs.Prelude.{ℕ, List, [], ◌∷◌, slice_get, Option, Some, None}
+use Rattle.std.specs.Prelude.{List, [], ◌∷◌, slice_get, Option, Some, None}
 use Rattle.wasm_ops.specs.declared.trap.Trap.TheVariants as traps
 use Rattle.host_port.specs.Standing.{Asking, Trapped, Exhausted}
 use Rattle.wasm_form.specs.declared.parts.Parts.{Parts}
@@ -7,7 +7,7 @@ use Rattle.wasm_form.specs.Trees.{Code, Empty, Then, TableOf, BlockOf, LoopOf, I
 use Rattle.tree_machine.specs.Instructions.{Plain, plain_of}
 use Rattle.tree_machine.specs.Instructions as op
 use Rattle.tree_machine.specs.Functions.{callee_of}
-use Rattle.tree_machine.specs.Config.{Cont, Frame, Config, with_frames}
+use Rattle.tree_machine.specs.Config.{Cont, Frame, Config}
 use Rattle.tree_machine.specs.Outcomes.{Outcome, Goes, Calls, Traps, Exceeds, Stuck, Gives, to_frame, to_operands}
 use Rattle.tree_machine.specs.Numeric.{unary, binary}
 use Rattle.tree_machine.specs.Parametric.{drop_one, select}

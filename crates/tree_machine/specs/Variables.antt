@@ -1,6 +1,6 @@
 -- Variable instructions (Core 1.0, 4.4.3).
-use Rattle.std.specs.Prelude.{ℕ, List, [], ◌∷◌, cond, nat_lt, length, slice_get, slice_set, Option, Some, None}
-use Rattle.tree_machine.specs.Config.{Config, Frame, with_frames, with_operands}
+use Rattle.std.specs.Prelude.{ℕ, List, [], ◌∷◌, cond, nat_lt, length, slice_set, Option, Some, None}
+use Rattle.tree_machine.specs.Config.{Config, Frame, with_operands}
 use Rattle.tree_machine.specs.Outcomes.{Effect, Gives, Undefined, Outcome, Goes, Stuck}
 
 -- local.get and global.get: the variable's value is pushed
