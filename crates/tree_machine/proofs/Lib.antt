@@ -1,3 +1,5 @@
 pub mod Worked
 mod WorkedModules
 pub mod Reading
+pub mod Values
+pub mod ExitsTyped

@@ -21,3 +21,4 @@ pub mod Run
 pub mod RunLaws
 pub mod CallLaws
 pub mod AskLaws
+pub mod Typed
