@@ -3,3 +3,4 @@ mod WorkedModules
 pub mod Reading
 pub mod Values
 pub mod ExitsTyped
+pub mod BranchTyped
