@@ -4,3 +4,4 @@ pub mod Reading
 pub mod Values
 pub mod ExitsTyped
 pub mod BranchTyped
+pub mod PlainOf

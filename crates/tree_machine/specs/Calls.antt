@@ -1,4 +1,4 @@
--- Calls of functions and of the host (Core 1.0, 4.4.5, 4.4.7 and 4.4.8).
+-- Calls of functions and of the host (Core 1.0, 4.4.5 and 4.4.7).
 use Rattle.std.specs.Prelude.{ℕ, ◌+◌, ◌-◌, List, [], ◌∷◌, ◌++◌, cond, nat_le, length, take, drop, reverse, replicate, slice_get, Option, Some, None}
 use Rattle.wasm_ops.specs.declared.trap.Trap.TheVariants as traps
 use Rattle.host_port.specs.declared.ask.Ask.{Ask}

@@ -44,7 +44,7 @@ repeat_loop result inside under f [] = Undefined
 repeat_loop result inside under f (k ∷ ks) =
     Gives (record f { operands = under; conts = record k { rest = LoopOf result inside k.rest } ∷ ks })
 
--- Core 1.0, 4.4.5, br, to the innermost label
+-- Core 1.0, 4.4.5, br, where the lists inside the label's are let go
 abbrev pub land : Label → (under : List ℕ) → Frame → (around : List Cont) → Effect Frame
 land (Leave results) under f around = leave_block (topmost results f.operands) under f around
 land (Again result inside) under f around = repeat_loop result inside under f around

@@ -1,4 +1,5 @@
--- What instantiation makes of a module: globals, table and memory (Core 1.0, 4.5.4).
+-- What instantiation makes of a module: globals, table and memory (Core 1.0, 4.5.4). It is said for accepted modules: no global is
+-- imported, each expression has a value, and there is one table and one memory at most; the defaults below are met in no other.
 use Rattle.std.specs.Prelude.{ℕ, ◌+◌, ◌*◌, ◌&&◌, Bool, false, nat_le, min, List, [], ◌++◌, length, map, fold, take, drop, replicate, slice_get, Option, Some, None, unwrap_or}
 use Rattle.std.specs.List.{list_all}
 use Rattle.linear_memory.specs.Bytes.{written}

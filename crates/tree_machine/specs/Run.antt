@@ -1,9 +1,10 @@
 -- The run of a module.
-use Rattle.std.specs.Prelude.{◌≡◌, ℕ, zero, suc, ◌&&◌, cond, nat_le, List, [], ◌∷◌, Option, Some, None, option_map, option_and_then, is_none}
+use Rattle.std.specs.Prelude.{◌≡◌, ℕ, zero, suc, ◌&&◌, cond, nat_le, List, [], ◌∷◌, ◌++◌, map, Option, Some, None, option_map, option_and_then, is_none}
 use Rattle.host_port.specs.Areas.{request_of}
 use Rattle.host_port.specs.Standing.{Standing, State, Ready, Asking, Finished, Trapped, Exhausted}
 use Rattle.host_port.specs.declared.ask.Ask.{Ask}
 use Rattle.host_port.specs.declared.call.Call.{Call}
+use Rattle.host_port.specs.declared.request.Request.{Request}
 use Rattle.host_port.specs.declared.start.Start.{Start}
 use Rattle.wasm_form.specs.declared.types.FuncType.{FuncType}
 use Rattle.wasm_form.specs.declared.parts.Parts.{Parts}
@@ -75,6 +76,19 @@ point_at m start calls n =
 -- what a host sees of it. Where it is ready and n is the most instructions, the next step is refused for want of fuel
 unfoldable pub at : Parts → Start → List Call → ℕ → Option Standing
 at m start calls n = option_map shown (point_at m start calls n)
+
+-- the request of an ask that waits for its reply, if a run is at one
+abbrev pub pending : State → (memory : List ℕ) → List Request
+pending (Asking ask) memory = request_of memory ask ∷ []
+pending Ready memory = []
+pending Finished memory = []
+pending (Trapped trap) memory = []
+pending (Exhausted spent) memory = []
+
+-- the requests of a run, in order, an unanswered last one included; nothing where there is no such run
+unfoldable pub asked : Parts → Start → List Call → ℕ → Option (List Request)
+asked m start calls n =
+    option_map (λ (s : Standing). map (λ (c : Call). c.request) calls ++ pending s.state s.memory) (at m start calls n)
 
 -- a function of the module is the host call with this number
 abbrev pub may_ask : Parts → (call : ℕ) → Type 0
