@@ -5,3 +5,5 @@ pub mod Values
 pub mod ExitsTyped
 pub mod BranchTyped
 pub mod PlainOf
+pub mod IntegersFit
+pub mod OperationsTyped
