@@ -73,6 +73,7 @@ module _ (m : Parts) (ty : FuncType) (runs : List LocalRun) where
               subst (λ (s : List ValType). Types (with_labels (a ∷ around) (context_of m ty runs)) k.rest (s ++ below) conts.0) ends_is next.leads);
           label = next.label;
           under = next.under;
+          outermost = next.outermost;
         }, conts.3);
       }
 
@@ -100,13 +101,13 @@ module _ (m : Parts) (ty : FuncType) (runs : List LocalRun) where
   pub begin_keeps : (f : Frame) (labels : List (List ValType)) (stack carried ends : List ValType) (inside : Code) (label : Label) →
       LaterTyped m ty runs labels f (ends ++ stack) → AreValues stack f.operands → HasInstrs inside →
       Types (with_labels (carried ∷ labels) (context_of m ty runs)) inside [] ends →
-      LabelTyped (context_of m ty runs) label carried ends labels → FrameTyped m [] (begun inside label f) ty
-  begin_keeps f labels stack carried ends inside label later operands instrs leads label_typed =
+      LabelTyped (context_of m ty runs) label carried ends labels → (labels ≡ [] → stack ≡ []) → FrameTyped m [] (begun inside label f) ty
+  begin_keeps f labels stack carried ends inside label later operands instrs leads label_typed outermost =
       record {
         runs = runs;
         labels = carried ∷ labels;
         stack = [];
         locals = later.locals;
         operands = tt;
-        conts = (ends, stack, record { instrs = instrs; leads = leads; label = label_typed; under = operands }, later.conts);
+        conts = (ends, stack, record { instrs = instrs; leads = leads; label = label_typed; under = operands; outermost = outermost }, later.conts);
       }

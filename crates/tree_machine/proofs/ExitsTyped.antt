@@ -128,7 +128,7 @@ entered_typed m function arguments is h =
       locals = values_append function.ty.params others arguments (replicate function.locals 0) h
           (subst (λ (n : ℕ). AreValues others (replicate n 0)) (sym is.locals) (zeros_are others));
       operands = tt;
-      conts = (reverse function.ty.results, [], record { instrs = is.instrs; leads = is.typed; label = (refl, refl); under = tt }, append-nil (reverse function.ty.results));
+      conts = (reverse function.ty.results, [], record { instrs = is.instrs; leads = is.typed; label = (refl, refl); under = tt; outermost = λ e. refl }, append-nil (reverse function.ty.results));
     }
 
 room_keeps : (m : Parts) (room : Bool) (p : Point) (c : Config) → IsTypedAt m p.state p.config →

@@ -7,3 +7,6 @@ pub mod BranchTyped
 pub mod PlainOf
 pub mod IntegersFit
 pub mod OperationsTyped
+pub mod MemoryTyped
+pub mod StraightTyped
+pub mod InstrTyped

@@ -16,7 +16,7 @@ use Rattle.tree_machine.proofs.PlainOf.{plain_within}
 use Rattle.tree_machine.proofs.IntegersFit.{rest_fits, unsigned_fits, quotient_fits, ResultFits, div_u_fits, rem_u_fits, div_s_fits, rem_s_fits, and_fits, or_fits, xor_fits, rotl_fits, rotr_fits, clz_fits, ctz_fits, popcnt_fits, one_if_fits}
 
 -- the bits of a type
-abbrev bits : Bool → ℕ
+abbrev pub bits : Bool → ℕ
 bits long = if long then 64 else 32
 
 -- whether an operation gives an i64, by whether its operands are of that type
@@ -68,7 +68,7 @@ told c =
     || (if takes_one c then unary_told (unary_of c) (takes_i64 c) (gives_i64 c) else binary_told (binary_of c) (takes_i64 c) (gives_i64 c))
 
 -- a test of each number below
-abbrev all_to : (ℕ → Bool) → ℕ → Bool
+abbrev pub all_to : (ℕ → Bool) → ℕ → Bool
 all_to test zero = true
 all_to test (suc n) = test n && all_to test n
 
@@ -80,7 +80,7 @@ both false b e = absurd (cc)
 at_or_below : (c n : ℕ) → c < suc n → (c ≡ n) ⊎ (c < n)
 at_or_below c n less = elim (eqb_tells c n) as (λ w. (c ≡ n) ⊎ (c < n)) [ inl w ↦ inl w.1 | inr w ↦ inr (let other : c ≢ n = w.1 in omega arith) ]
 
-each_to : (test : ℕ → Bool) (n c : ℕ) → all_to test n ≡ true → c < n → test c ≡ true
+pub each_to : (test : ℕ → Bool) (n c : ℕ) → all_to test n ≡ true → c < n → test c ≡ true
 each_to test zero c e less = absurd (omega arith)
 each_to test (suc n) c e less =
     let two = both (test n) (all_to test n) e in
@@ -101,7 +101,7 @@ plain_told c kind =
     either (is_plain (kind_of c)) _ (each_to told 192 c all_told (omega arith)) (ap is_plain kind)
 
 -- a number of the bits of a type is a value of it
-value_of_bits : (long : Bool) (n : ℕ) → n < 2 ^ bits long → IsValue (value_type (num_if long)) n
+pub value_of_bits : (long : Bool) (n : ℕ) → n < 2 ^ bits long → IsValue (value_type (num_if long)) n
 value_of_bits true n h = h
 value_of_bits false n h = h
 
@@ -109,7 +109,7 @@ bits_of_value : (long : Bool) (n : ℕ) → IsValue (value_type (num_if long)) n
 bits_of_value true n h = h
 bits_of_value false n h = h
 
-small : (long : Bool) (n : ℕ) → n ≤ 64 → n < 2 ^ bits long
+pub small : (long : Bool) (n : ℕ) → n ≤ 64 → n < 2 ^ bits long
 small true n h = let big : 64 < 2 ^ 64 = lit< tt in omega arith
 small false n h = let big : 64 < 2 ^ 32 = lit< tt in omega arith
 

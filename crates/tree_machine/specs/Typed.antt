@@ -1,5 +1,5 @@
 -- Typed configurations: the typing of a module says of each which types its values have, so that a rule applies to it.
-use Rattle.std.specs.Prelude.{◌≡◌, ℕ, ◌+◌, ◌*◌, ◌^◌, ◌<◌, ◌≤◌, ⊤, List, [], ◌∷◌, ◌++◌, length, map, reverse, replicate, flat_map, All, slice_get, Option, Some, None, option_to_list, sum_by}
+use Rattle.std.specs.Prelude.{◌≡◌, ℕ, ◌+◌, ◌*◌, ◌%◌, ◌^◌, ◌<◌, ◌≤◌, ⊤, List, [], ◌∷◌, ◌++◌, length, map, reverse, replicate, flat_map, All, slice_get, Option, Some, None, option_to_list, sum_by}
 use Rattle.linear_memory.specs.Contents.{Contents, page_size}
 use Rattle.host_port.specs.Standing.{State, Ready, Asking, Finished, Trapped, Exhausted}
 use Rattle.wasm_form.specs.declared.value_type.ValType.{ValType}
@@ -53,12 +53,14 @@ LabelTyped context (Again result inside) carried ends [] = ⊥
 LabelTyped context (Again result inside) carried ends (a ∷ around) =
     (carried ≡ []) × (ends ≡ option_to_list result) × HasInstrs inside × Types (with_labels ([] ∷ a ∷ around) context) inside [] ends
 
--- what is left of a list leads from this stack to the stack with which it ends, and the operands below it have their types
+-- what is left of a list leads from this stack to the stack with which it ends, and the operands below it have their types; below
+-- the body's there are none
 pub record ContTyped (context : Context) (carried : List ValType) (around : List (List ValType)) (k : Cont) (stack ends below : List ValType) : Type 0 where
   pub instrs : HasInstrs k.rest
   pub leads : Types (with_labels (carried ∷ around) context) k.rest stack ends
   pub label : LabelTyped context k.label carried ends around
   pub under : AreValues below k.under
+  pub outermost : around ≡ [] → below ≡ []
 
 -- the lists that have begun, from this stack on; where none is left, the stack is the function's results
 abbrev pub ContsTyped : Context → (labels : List (List ValType)) → List Cont → (stack : List ValType) → Type 0
@@ -87,11 +89,17 @@ FramesTyped m given (f ∷ below) = (ty : FuncType) × FrameTyped m given f ty �
 abbrev pub ElementsKnown : Parts → List (Option ℕ) → Type 0
 ElementsKnown m table = (place index : ℕ) → slice_get table place ≡ Some (Some index) → (callee : Callee) × (callee_of m index ≡ Some callee)
 
--- a memory is there where the module has one; its bytes are bytes, and its pages are counted by an i32
+-- the bytes of a memory are bytes, whole pages of them, no more than it may have, and its pages are counted by an i32
+pub record IsTypedMemory (memory : Contents) : Type 0 where
+  pub octets : All IsOctet memory.bytes
+  pub whole : length memory.bytes % page_size ≡ 0
+  pub within : length memory.bytes ≤ memory.most * page_size
+  pub most : memory.most ≤ 65536
+
+-- a memory is there where the module has one
 abbrev pub MemoryTyped : Parts → Option Contents → Type 0
 MemoryTyped m None = ¬ (0 < length (memories_of m))
-MemoryTyped m (Some memory) =
-    All IsOctet memory.bytes × (length memory.bytes ≤ memory.most * page_size) × (memory.most ≤ 65536)
+MemoryTyped m (Some memory) = IsTypedMemory memory
 
 -- the function is the module's, and the arguments have the types of its parameters
 abbrev pub InvocationTyped : Parts → Invocation → Type 0
