@@ -10,3 +10,5 @@ pub mod OperationsTyped
 pub mod MemoryTyped
 pub mod StraightTyped
 pub mod InstrTyped
+pub mod CallTyped
+pub mod StepTyped
