@@ -12,3 +12,4 @@ pub mod StraightTyped
 pub mod InstrTyped
 pub mod CallTyped
 pub mod StepTyped
+pub mod ReplyTyped

@@ -21,7 +21,7 @@ use Rattle.tree_machine.specs.Control.{result_count, begun, begin_block, begin_l
 use Rattle.tree_machine.specs.Limits.{judged, places, most_values, has_room}
 use Rattle.tree_machine.specs.Point.{Point, point, settle}
 use Rattle.tree_machine.specs.Step.{execute, with_rest, next_of, next_in, next_among, next, stands_after, step}
-use Rattle.tree_machine.specs.Typed.{AreValues, HasInstrs, ContTyped, ContsTyped, with_labels, LabelTyped, FrameTyped, FramesTyped, IsTyped, IsNext, HasNextIn, HasNext, IsTypedAt, IsTypedModule, IsKept}
+use Rattle.tree_machine.specs.Typed.{AreValues, HasInstrs, ContTyped, ContsTyped, with_labels, LabelTyped, FrameTyped, FramesTyped, IsTyped, IsNext, HasNextIn, HasNext, IsTypedAt, StandsTyped, IsTypedModule, IsKept}
 use Rattle.tree_machine.proofs.ExitsTyped.{settle_keeps}
 use Rattle.tree_machine.proofs.BranchTyped.{IsFrameKept, LaterTyped, begin_keeps}
 use Rattle.tree_machine.proofs.StraightTyped.{numeric_kept, parametric_kept}
@@ -163,10 +163,6 @@ frames_kept m module_typed c (f ∷ below) is typed next_is =
 pub next_kept : (m : Parts) → IsTypedModule m → (c : Config) → IsTyped m [] c → HasNext c.frames → IsKept m (next m c)
 unfolding next
 next_kept m module_typed c is next_is = frames_kept m module_typed c c.frames is is.frames next_is
-
--- where a run stands is typed
-abbrev pub StandsTyped : Parts → Option Point → Type 0
-StandsTyped m o = (p : Point) × (o ≡ Some p) × IsTypedAt m p.state p.config
 
 roomed : (m : Parts) (c : Config) (b : Bool) (o : Outcome) → StandsTyped m (stands_after m c o) →
     StandsTyped m (stands_after m c (cond b o (Exceeds limit.Values)))

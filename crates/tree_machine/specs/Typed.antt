@@ -15,6 +15,7 @@ use Rattle.wasm_form.specs.Context.{Context, functions_of, memories_of, globals_
 use Rattle.wasm_form.specs.Typing.{Types}
 use Rattle.tree_machine.specs.Functions.{Function, Callee, Host, type_of, own_function, callee_of}
 use Rattle.tree_machine.specs.Config.{Label, Leave, Again, Cont, Frame, Invocation, Config}
+use Rattle.tree_machine.specs.Point.{Point}
 use Rattle.tree_machine.specs.Outcomes.{Outcome, Goes, Calls, Traps, Exceeds, Stuck}
 
 -- Core 1.0, 4.2.1: a number is a value of this type
@@ -139,6 +140,10 @@ IsTypedAt m (Asking ask) c =
 IsTypedAt m Finished c = ⊤
 IsTypedAt m (Trapped trap) c = ⊤
 IsTypedAt m (Exhausted spent) c = ⊤
+
+-- a run stands somewhere, at a typed configuration
+abbrev pub StandsTyped : Parts → Option Point → Type 0
+StandsTyped m o = (p : Point) × (o ≡ Some p) × IsTypedAt m p.state p.config
 
 -- what the typing of a module says of a function of its own
 pub record IsTypedFunction (m : Parts) (function : Function) : Type 0 where

@@ -1,5 +1,6 @@
-ghost use Rattle.std.specs.Prelude.{◌≡◌, ◌≢◌, ℕ, ◌+◌, ◌<◌, ◌≤◌, List, [], ◌∷◌, ◌++◌, Some, None, IsSome};
+ghost use Rattle.std.specs.Prelude.{◌≡◌, ◌≢◌, ℕ, ◌+◌, ◌<◌, ◌≤◌, List, [], ◌∷◌, ◌++◌, Some, None, IsSome, option_to_list};
 ghost use Rattle.host_port.specs.Areas.{request_of};
+ghost use Rattle.host_port.specs.Forms.{HasForm};
 ghost use Rattle.host_port.specs.Standing.{Ready, Asking, state_of};
 ghost use Rattle.host_port.specs.declared.ask.Ask.{Ask};
 ghost use Rattle.host_port.specs.declared.call.Call.{Call};
@@ -8,6 +9,7 @@ ghost use Rattle.host_port.specs.declared.start.Start.{Start};
 ghost use Rattle.host_port.specs.declared.start.StartRefusal.{StartRefusal};
 ghost use Rattle.host_port.specs.declared.start.StartRefusal.TheVariants.{NoMemory};
 ghost use Rattle.wasm_form.specs.declared.expr.Expr.{Expr};
+ghost use Rattle.wasm_form.specs.declared.value_type.ValType.{ValType};
 ghost use Rattle.wasm_form.specs.declared.parts.Parts.{Parts};
 ghost use Rattle.wasm_form.specs.Trees.{Code, IsFlat};
 ghost use Rattle.wasm_form.specs.Matching.{HasPlain};
@@ -19,6 +21,7 @@ ghost use Rattle.tree_machine.specs.Replies.{replied};
 ghost use Rattle.tree_machine.specs.Begin.{begin};
 ghost use Rattle.tree_machine.specs.Run.{point_at, at, may_ask};
 ghost use Rattle.tree_machine.specs.CallLaws.{WasReady};
+ghost use Rattle.tree_machine.specs.Typed.{AreValues, IsTyped, IsTypedAt, StandsTyped, IsTypedModule};
 
 /// The tree that is executed for an expression is the one whose flat list it is. It computes nothing.
 pub fn one_tree()
@@ -60,4 +63,15 @@ pub fn runs_go_on()
 pub fn runs_began_so()
     ensures { (m : Parts) (start : Start) (calls : List Call) (n k : ℕ) (p : Point) →
         point_at m start calls n ≡ Some p → k < n → WasReady m start calls k }
+{}
+
+/// In a typed module a typed configuration is never stuck: it goes on, and what it comes to is typed again. It computes
+/// nothing.
+pub fn typed_runs_go_on()
+    // By each instruction.
+    ensures steps { (m : Parts) (c : Config) → IsTypedModule m → IsTypedAt m Ready c → StandsTyped m (step m c) }
+    // By a reply of the call's form whose result has the types that the configuration waits for.
+    ensures replies { (m : Parts) (ask : Ask) (given : List ValType) (c : Config) (reply : Reply) →
+        IsTypedModule m → IsTyped m given c → HasForm ask reply → AreValues given (option_to_list reply.result) →
+        StandsTyped m (replied m c reply) }
 {}

@@ -7,4 +7,4 @@
 
 mod laws;
 
-pub use laws::{one_tree, runs_began_so, runs_go_on, runs_keep_to_their_start};
+pub use laws::{one_tree, runs_began_so, runs_go_on, runs_keep_to_their_start, typed_runs_go_on};
