@@ -1,20 +1,20 @@
 -- Branches and the beginnings of lists keep a frame typed.
 use Rattle.std.specs.Prelude.{⊤}
-use Rattle.std.proofs.Common.{◌≡◌, ◌≤◌, ℕ, zero, suc, List, [], ◌∷◌, ◌++◌, length, reverse, take, drop, cond, nat_le, nat_eq, Bool, true, false, slice_get, slice_index_or, Option, Some, None, option_to_list, arith, refl, sym, ◌∙◌, ap, subst}
+use Rattle.std.proofs.Common.{◌≡◌, ◌≤◌, ℕ, zero, suc, List, [], ◌∷◌, ◌++◌, length, reverse, take, nat_le, true, slice_get, Option, Some, option_to_list, arith, refl, sym, ◌∙◌, ap, subst}
 use Rattle.std.proofs.lemmas.Bool.Decides.{nat_tests}
 use Rattle.std.proofs.lemmas.List.{length-reverse}
 use Rattle.wasm_form.specs.declared.value_type.ValType.{ValType}
 use Rattle.wasm_form.specs.declared.types.FuncType.{FuncType}
 use Rattle.wasm_form.specs.declared.body.LocalRun.{LocalRun}
 use Rattle.wasm_form.specs.declared.parts.Parts.{Parts}
-use Rattle.wasm_form.specs.Trees.{Code, Empty, LoopOf}
-use Rattle.wasm_form.specs.Context.{Context, context_of}
-use Rattle.wasm_form.specs.Typing.{Types, EndsIn}
-use Rattle.tree_machine.specs.Config.{Label, Leave, Again, Cont, cont, Frame, with_operands}
+use Rattle.wasm_form.specs.Trees.{Code}
+use Rattle.wasm_form.specs.Context.{context_of}
+use Rattle.wasm_form.specs.Typing.{Types}
+use Rattle.tree_machine.specs.Config.{Label, Leave, Again, Cont, Frame, with_operands}
 use Rattle.tree_machine.specs.Outcomes.{Effect, Gives, Fails, Undefined}
-use Rattle.tree_machine.specs.Control.{result_count, begun, begin_block, begin_loop, begin_if, topmost, leave_block, repeat_loop, land, branch_in, branch, branch_if, branch_table, return_from}
-use Rattle.tree_machine.specs.Typed.{AreValues, HasInstrs, ContTyped, ContsTyped, with_labels, LabelTyped, FrameTyped}
-use Rattle.tree_machine.proofs.Values.{IsSplit, values_split, values_append, as_many}
+use Rattle.tree_machine.specs.Control.{begun, topmost, leave_block, land, branch_in, branch}
+use Rattle.tree_machine.specs.Typed.{AreValues, HasInstrs, ContsTyped, with_labels, LabelTyped, FrameTyped}
+use Rattle.tree_machine.proofs.Values.{values_split, values_append}
 
 -- a frame is typed again; a trap is none of the typing's matter
 abbrev pub IsFrameKept : Parts → FuncType → Effect Frame → Type 0
@@ -67,14 +67,21 @@ module _ (m : Parts) (ty : FuncType) (runs : List LocalRun) where
         stack = below;
         locals = locals;
         operands = h;
-        conts = (conts.0, conts.1, record {
-          instrs = (label.2, next.instrs);
-          leads = (subst (λ (s : List ValType). Types (with_labels ([] ∷ a ∷ around) (context_of m ty runs)) inside [] s) ends_is label.3,
-              subst (λ (s : List ValType). Types (with_labels (a ∷ around) (context_of m ty runs)) k.rest (s ++ below) conts.0) ends_is next.leads);
-          label = next.label;
-          under = next.under;
-          outermost = next.outermost;
-        }, conts.3);
+        conts = (
+          conts.0,
+          conts.1,
+          record {
+            instrs = (label.2, next.instrs);
+            leads = (
+              subst (λ (s : List ValType). Types (with_labels ([] ∷ a ∷ around) (context_of m ty runs)) inside [] s) ends_is label.3,
+              subst (λ (s : List ValType). Types (with_labels (a ∷ around) (context_of m ty runs)) k.rest (s ++ below) conts.0) ends_is next.leads,
+            );
+            label = next.label;
+            under = next.under;
+            outermost = next.outermost;
+          },
+          conts.3,
+        );
       }
 
   branch_in_keeps : (label : ℕ) (f : Frame) (labels : List (List ValType)) (ks : List Cont) (stack needs needed_below : List ValType) →

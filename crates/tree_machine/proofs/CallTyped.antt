@@ -1,6 +1,5 @@
 -- Calls keep a configuration typed.
-use Rattle.std.specs.Prelude.{⊤}
-use Rattle.std.proofs.Common.{◌≡◌, ◌≢◌, ◌≤◌, ◌<◌, ℕ, ◌+◌, Bool, true, false, ◌&&◌, cond, if◌then◌else◌, nat_le, nat_lt, List, [], ◌∷◌, ◌++◌, length, take, drop, reverse, slice_get, Option, Some, None, option_and_then, arith, refl, sym, ◌∙◌, ap, subst}
+use Rattle.std.proofs.Common.{◌≡◌, ◌≢◌, ◌≤◌, ℕ, ◌+◌, Bool, true, false, ◌&&◌, cond, if◌then◌else◌, nat_le, nat_lt, List, [], ◌∷◌, ◌++◌, length, take, drop, reverse, slice_get, Option, Some, None, option_and_then, arith, refl, sym, ◌∙◌, ap, subst}
 use Rattle.std.proofs.lemmas.Bool.Decides.{nat_tests}
 use Rattle.std.proofs.lemmas.List.{length-reverse, reverse-append, reverse-reverse}
 use Rattle.std.specs.Cmp.Lexicographic.{pointwise}
@@ -14,14 +13,14 @@ use Rattle.wasm_form.specs.declared.body.LocalRun.{LocalRun}
 use Rattle.wasm_form.specs.declared.instr.Instr.{Instr}
 use Rattle.wasm_form.specs.declared.parts.Import.{Import}
 use Rattle.wasm_form.specs.declared.parts.Parts.{Parts}
-use Rattle.wasm_form.specs.Context.{Context, context_of}
+use Rattle.wasm_form.specs.Context.{context_of}
 use Rattle.wasm_form.specs.Typing.{arrow, Applies, IsCall, IsCallIndirect}
 use Rattle.tree_machine.specs.Instructions.{Plain, plain_of}
 use Rattle.tree_machine.specs.Functions.{Function, Callee, Own, Host, type_of, imported_functions, host_call, imported_callee, own_function, owned, callee_of, same_value_type, same_type}
 use Rattle.tree_machine.specs.Config.{Frame, Config, frame_of, with_frames, with_operands}
-use Rattle.tree_machine.specs.Outcomes.{Outcome, Goes, Calls, Traps, Exceeds, Stuck}
+use Rattle.tree_machine.specs.Outcomes.{Goes, Traps, Exceeds, Stuck}
 use Rattle.tree_machine.specs.Limits.{most_frames}
-use Rattle.tree_machine.specs.Calls.{ask_of, enter, invoke, invoke_with, call, call_typed, call_element, call_indirect}
+use Rattle.tree_machine.specs.Calls.{invoke, call, call_typed, call_element, call_indirect}
 use Rattle.tree_machine.specs.Step.{execute_plain, execute}
 use Rattle.tree_machine.specs.Typed.{AreValues, ContsTyped, with_labels, FrameTyped, FramesTyped, IsTyped, IsTypedModule, IsKept}
 use Rattle.tree_machine.proofs.Values.{values_split, values_reverse}
@@ -110,12 +109,18 @@ module _ (m : Parts) (module_typed : IsTypedModule m) (ty : FuncType) (runs : Li
   invoke_kept index (Own function) arguments b values found e h args =
       kept_if m (nat_le (length (with_operands values f ∷ below) + 1) most_frames)
       (Goes (with_frames (frame_of function arguments ∷ with_operands values f ∷ below) c)) (Exceeds limit.Frames)
-      (λ room. with_typed m [] [] c (frame_of function arguments ∷ with_operands values f ∷ below) is
-      (function.ty, entered_typed m function arguments (module_typed.functions index function (own_is m index function found)) args,
-      (ty, caller_typed function.ty.results b values e h, rest))) tt
-  invoke_kept index (Host host_ty number) arguments b values found e h args =
-      (index, host_ty, found, refl,
-      with_typed m [] (reverse host_ty.results) c (with_operands values f ∷ below) is (ty, caller_typed host_ty.results b values e h, rest))
+      (λ room. with_typed m [] [] c (frame_of function arguments ∷ with_operands values f ∷ below) is (
+        function.ty,
+        entered_typed m function arguments (module_typed.functions index function (own_is m index function found)) args,
+        (ty, caller_typed function.ty.results b values e h, rest),
+      )) tt
+  invoke_kept index (Host host_ty number) arguments b values found e h args = (
+    index,
+    host_ty,
+    found,
+    refl,
+    with_typed m [] (reverse host_ty.results) c (with_operands values f ∷ below) is (ty, caller_typed host_ty.results b values e h, rest),
+  )
 
   call_known : (index : ℕ) (callee : Callee) (b : List ValType) (values : List ℕ) → callee_of m index ≡ Some callee →
       after ≡ reverse (type_of callee).results ++ b → AreValues (reverse (type_of callee).params ++ b) values →

@@ -1,21 +1,20 @@
 -- Exits and entering keep a configuration typed, and end where an instruction is to come.
-use Rattle.std.proofs.Common.{◌≡◌, ◌≤◌, ℕ, List, [], ◌∷◌, ◌++◌, length, reverse, replicate, flat_map, cond, nat_le, Bool, true, false, Option, Some, None, refl, sym, ◌∙◌, ap, subst, append-nil}
+use Rattle.std.proofs.Common.{◌≡◌, ℕ, List, [], ◌∷◌, ◌++◌, reverse, replicate, flat_map, cond, nat_le, Bool, true, false, Option, Some, None, refl, sym, ◌∙◌, subst, append-nil}
 use Rattle.std.specs.Prelude.{⊤}
-use Rattle.host_port.specs.Standing.{State, Ready, Asking, Finished, Trapped, Exhausted}
+use Rattle.host_port.specs.Standing.{Exhausted}
 use Rattle.host_port.specs.declared.stop.Spent.TheVariants as limit
 use Rattle.wasm_form.specs.declared.value_type.ValType.{ValType}
-use Rattle.wasm_form.specs.declared.types.FuncType.{FuncType}
 use Rattle.wasm_form.specs.declared.body.LocalRun.{LocalRun}
 use Rattle.wasm_form.specs.declared.parts.Parts.{Parts}
 use Rattle.wasm_form.specs.Trees.{Code, Empty, Then, TableOf, BlockOf, LoopOf, IfOf, IfElseOf}
 use Rattle.wasm_form.specs.Context.{Context, context_of}
 use Rattle.wasm_form.specs.Typing.{Types}
 use Rattle.tree_machine.specs.Functions.{Function, own_function}
-use Rattle.tree_machine.specs.Config.{Label, Leave, Again, Cont, cont, Frame, Invocation, Config, frame_of, with_frames}
+use Rattle.tree_machine.specs.Config.{Cont, Frame, Invocation, Config, frame_of, with_frames}
 use Rattle.tree_machine.specs.Limits.{most_values, places}
 use Rattle.tree_machine.specs.Exits.{unless_ended, leave_lists, unless_returned, return_to, settled}
 use Rattle.tree_machine.specs.Point.{Point, point, unless_left, entered, enter_next, settle}
-use Rattle.tree_machine.specs.Typed.{AreValues, ContTyped, ContsTyped, with_labels, LabelTyped, FrameTyped, FramesTyped, ElementsKnown, MemoryTyped, InvocationTyped, InvocationsTyped, IsTyped, IsNext, HasNextIn, HasNext, IsTypedAt, IsTypedFunction, IsTypedModule}
+use Rattle.tree_machine.specs.Typed.{AreValues, ContsTyped, with_labels, FrameTyped, FramesTyped, IsTyped, IsNext, HasNextIn, IsTypedAt, IsTypedFunction, IsTypedModule}
 use Rattle.tree_machine.proofs.Values.{values_append, zeros_are}
 
 unless_case : (P : Frame → Type 0) (code : Code) (stays goes : Frame) → (IsNext code → P stays) → (code ≡ Empty → P goes) → P (unless_ended code stays goes)
@@ -86,14 +85,21 @@ return_keeps m given results (f ∷ below) h typed =
     leave_keeps (context_of m ty frame.runs) f.locals (results ++ f.operands) frame.labels f.conts (given ++ frame.stack)
     (values_append given frame.stack results f.operands h frame.operands) frame.conts in
     returned_case (λ (frames : List Frame). FramesTyped m [] frames × EmptyOrNext frames) left.conts (left ∷ below) (return_to left.operands below) is.next
-    (λ next. ((ty, record {
-      runs = frame.runs;
-      labels = is.labels;
-      stack = is.stack;
-      locals = subst (AreValues (context_of m ty frame.runs).locals) (sym is.same) frame.locals;
-      operands = is.operands;
-      conts = is.conts;
-    }, typed.2), next))
+    (λ next. (
+      (
+        ty,
+        record {
+          runs = frame.runs;
+          labels = is.labels;
+          stack = is.stack;
+          locals = subst (AreValues (context_of m ty frame.runs).locals) (sym is.same) frame.locals;
+          operands = is.operands;
+          conts = is.conts;
+        },
+        typed.2,
+      ),
+      next,
+    ))
     (λ ended.
     let all : is.stack ≡ reverse ty.results = ended_stack (context_of m ty frame.runs) is.labels left.conts is.stack ended is.conts in
     return_keeps m (reverse ty.results) left.operands below

@@ -1,6 +1,5 @@
 -- Variables, memory and control keep a configuration typed.
-use Rattle.std.specs.Prelude.{⊤}
-use Rattle.std.proofs.Common.{◌≡◌, ◌≤◌, ◌<◌, ℕ, zero, suc, pred, ◌+◌, ◌⊎◌, inl, inr, ◌||◌, not, lit<, Bool, true, false, cond, nat_le, nat_lt, nat_eq, All, List, [], ◌∷◌, ◌++◌, length, map, reverse, slice_get, slice_set, slice_range, slice_index_or, Option, Some, None, option_to_list, arith, refl, sym, ◌∙◌, ap, subst, append-nil}
+use Rattle.std.proofs.Common.{◌≡◌, ◌≤◌, ◌<◌, ℕ, zero, suc, pred, ◌+◌, inl, inr, ◌||◌, not, lit<, Bool, true, false, cond, nat_le, nat_lt, nat_eq, All, List, [], ◌∷◌, ◌++◌, length, map, reverse, slice_get, slice_set, slice_range, slice_index_or, Option, Some, None, arith, refl, sym, ◌∙◌, ap, subst, append-nil}
 use Rattle.std.proofs.lemmas.Bool.Decides.{nat_tests}
 use Rattle.std.proofs.lemmas.List.{reverse-append, reverse-reverse}
 use Rattle.std.proofs.lemmas.List.Elements.{All-head, All-tail}
@@ -9,28 +8,27 @@ use Rattle.wasm_ops.specs.declared.instruction.Kind.TheVariants as kinds
 use Rattle.wasm_ops.specs.declared.trap.Trap.TheVariants as traps
 use Rattle.wasm_ops.specs.Table.{kind_of, takes_one, takes_i64, gives_i64, moves_i64, num_if, width_of}
 use Rattle.linear_memory.specs.Bytes.{low_bytes, written}
-use Rattle.linear_memory.specs.Contents.{Contents, page_size}
+use Rattle.linear_memory.specs.Contents.{Contents}
 use Rattle.wasm_form.specs.declared.value_type.ValType.{ValType}
-use Rattle.wasm_form.specs.declared.value_type.ValType.TheVariants.{I32, I64}
+use Rattle.wasm_form.specs.declared.value_type.ValType.TheVariants.{I32}
 use Rattle.wasm_form.specs.declared.types.FuncType.{FuncType}
 use Rattle.wasm_form.specs.declared.types.GlobalType.{GlobalType}
 use Rattle.wasm_form.specs.declared.body.LocalRun.{LocalRun}
 use Rattle.wasm_form.specs.declared.instr.Instr.{Instr}
 use Rattle.wasm_form.specs.declared.instr.Imm.{Imm}
-use Rattle.wasm_form.specs.declared.instr.Imm.TheVariants as imm
 use Rattle.wasm_form.specs.declared.parts.Parts.{Parts}
 use Rattle.wasm_form.specs.Context.{Context, memories_of, globals_of, context_of}
-use Rattle.wasm_form.specs.Typing.{arrow, Applies, value_type, listed_type, IsLocal, IsGlobal, IsAccess, IsMemorySize, IsBranchIf, Leaves, TableLeaves, EndsIn}
+use Rattle.wasm_form.specs.Typing.{arrow, Applies, value_type, IsLocal, IsGlobal, IsAccess, IsMemorySize, IsBranchIf, Leaves, TableLeaves, EndsIn}
 use Rattle.tree_machine.specs.Instructions.{Plain, plain_of, access_of}
 use Rattle.tree_machine.specs.Instructions as op
 use Rattle.tree_machine.specs.Config.{Label, Leave, Again, Cont, Frame, Config, with_frames, with_operands}
-use Rattle.tree_machine.specs.Outcomes.{Effect, Gives, Fails, Undefined, Outcome, Goes, Calls, Traps, Exceeds, Stuck, to_frame, to_operands}
+use Rattle.tree_machine.specs.Outcomes.{Effect, Gives, Fails, Undefined, Outcome, Goes, Traps, Stuck, to_frame, to_operands}
 use Rattle.tree_machine.specs.Variables.{push_value, set_local, local_set, local_tee, global_set}
 use Rattle.tree_machine.specs.MemoryAccess.{load, load_from, store_at, store, extended}
 use Rattle.tree_machine.specs.MemorySize.{pages_in, size_of, minus_one, grown, grow}
 use Rattle.tree_machine.specs.Control.{branch, branch_if, branch_table, return_from}
 use Rattle.tree_machine.specs.Step.{execute_plain, execute}
-use Rattle.tree_machine.specs.Typed.{IsValue, AreValues, ContsTyped, with_labels, LabelTyped, FrameTyped, FramesTyped, IsTypedMemory, MemoryTyped, IsTyped, IsKept}
+use Rattle.tree_machine.specs.Typed.{IsValue, AreValues, ContsTyped, with_labels, LabelTyped, FramesTyped, IsTypedMemory, MemoryTyped, IsTyped, IsKept}
 use Rattle.tree_machine.proofs.Values.{as_many, value_at, values_set, place_below}
 use Rattle.tree_machine.proofs.ExitsTyped.{with_typed}
 use Rattle.tree_machine.proofs.BranchTyped.{IsFrameKept, LaterTyped, with_values, branch_keeps}
@@ -291,11 +289,19 @@ module _ (m : Parts) (ty : FuncType) (runs : List LocalRun) (labels : List (List
         table = is.table;
         memory = grown_typed memory pages typed (grind (arith, nat_tests));
         invocations = is.invocations;
-        frames = (ty, with_values m ty runs labels f after (size ∷ values) later
-            (subst (λ (s : List ValType). AreValues s (size ∷ values)) (sym e) (pages_value memory typed, h.1)), rest);
+        frames = (
+          ty,
+          with_values m ty runs labels f after (size ∷ values) later
+              (subst (λ (s : List ValType). AreValues s (size ∷ values)) (sym e) (pages_value memory typed, h.1)),
+          rest,
+        );
       })
-      (with_typed m [] [] c (with_operands (minus_one ∷ values) f ∷ below) is (ty, with_values m ty runs labels f after (minus_one ∷ values) later
-      (subst (λ (s : List ValType). AreValues s (minus_one ∷ values)) (sym e) (lit< tt, h.1)), rest))
+      (with_typed m [] [] c (with_operands (minus_one ∷ values) f ∷ below) is (
+        ty,
+        with_values m ty runs labels f after (minus_one ∷ values) later
+            (subst (λ (s : List ValType). AreValues s (minus_one ∷ values)) (sym e) (lit< tt, h.1)),
+        rest,
+      ))
 
   pub size_kept : (i : Instr) (known : FuncType) → IsMemorySize (with_labels labels (context_of m ty runs)) i known → Applies known before after →
       IsKept m (execute m (plain_of i) c f below)

@@ -1,6 +1,6 @@
 -- The integer operations give values of their width.
-use Rattle.std.proofs.Common.{◌≡◌, ◌≢◌, ◌≤◌, ◌<◌, ℕ, zero, suc, ◌+◌, ◌-◌, ◌*◌, ◌/◌, ◌%◌, ◌^◌, ◌⊎◌, inl, inr, ◌==◌, ◌&&◌, Bool, true, false, if◌then◌else◌, List, [], ◌∷◌, length, fold, cond, sum_by, count_by, min, max, Result, Ok, Err, ℤ, pos, negsuc, arith, refl, sym, ◌∙◌, ap, subst, add-one, add-zero, lit<}
-use Rattle.std.proofs.lemmas.Bool.Decides.{nat_tests, eqb_tells}
+use Rattle.std.proofs.Common.{◌≡◌, ◌≤◌, ◌<◌, ℕ, zero, suc, ◌+◌, ◌-◌, ◌*◌, ◌/◌, ◌%◌, ◌^◌, ◌==◌, ◌&&◌, Bool, true, false, if◌then◌else◌, length, fold, sum_by, count_by, min, max, Result, Ok, Err, ℤ, pos, negsuc, arith, refl, sym, ◌∙◌, ap, subst, add-zero}
+use Rattle.std.proofs.lemmas.Bool.Decides.{nat_tests}
 use Rattle.std.proofs.Math.Nat.{div-le_self, mul-le-mul_right, mul-div_cancel, mul-mod_left, div-lt_iff_lt-mul}
 use Rattle.std.proofs.lemmas.Nat.{pow-add, mod-pow-add}
 use Rattle.std.proofs.lemmas.List.Sums.{count_by-le-length}
@@ -9,7 +9,7 @@ use Rattle.std.specs.List.{range_with_len}
 use Rattle.std.proofs.Math.Pow.{pow_pos}
 use Rattle.wasm_ops.specs.declared.trap.Trap.{Trap}
 use Rattle.wasm_ops.specs.declared.trap.Trap.TheVariants.{DivideByZero, Overflow}
-use Rattle.wasm_ops.specs.Integers.{IsIntWidth, positions, bit, one_if, signed, unsigned, quotient, remainder, floor_quotient, div_u, rem_u, div_s, rem_s, bitwise, and, or, xor, shl, shr_u, shr_s, rotl, rotr, clz, ctz, popcnt}
+use Rattle.wasm_ops.specs.Integers.{positions, bit, one_if, signed, unsigned, quotient, remainder, div_u, rem_u, div_s, rem_s, bitwise, and, or, xor, rotl, rotr, clz, ctz, popcnt}
 
 power : (w : ℕ) → 0 < 2 ^ w
 power w = pow_pos w

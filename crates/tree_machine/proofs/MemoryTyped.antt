@@ -1,6 +1,5 @@
 -- Memory instructions keep a memory typed, and load values of their types.
-use Rattle.std.specs.Prelude.{⊤}
-use Rattle.std.proofs.Common.{◌≡◌, ◌≤◌, ◌<◌, ℕ, zero, suc, ◌+◌, ◌-◌, ◌*◌, ◌/◌, ◌%◌, ◌^◌, ◌||◌, not, All, Bool, true, false, cond, if◌then◌else◌, nat_le, List, [], ◌∷◌, ◌++◌, length, take, drop, replicate, slice_range, Option, Some, None, arith, refl, sym, ◌∙◌, ap, subst, lit<, length-append, length-take, length-drop}
+use Rattle.std.proofs.Common.{◌≡◌, ◌≤◌, ◌<◌, ℕ, zero, suc, ◌+◌, ◌-◌, ◌*◌, ◌/◌, ◌%◌, ◌^◌, ◌||◌, not, All, Bool, true, false, if◌then◌else◌, nat_le, List, [], ◌∷◌, ◌++◌, length, take, drop, replicate, slice_range, arith, refl, ◌∙◌, ap, subst, lit<, length-append, length-take, length-drop}
 use Rattle.std.proofs.lemmas.Bool.Decides.{nat_tests}
 use Rattle.std.proofs.lemmas.List.{length-replicate}
 use Rattle.std.proofs.lemmas.Nat.{pow-add}
@@ -19,7 +18,7 @@ use Rattle.tree_machine.specs.MemorySize.{pages_in, grown}
 use Rattle.tree_machine.specs.Typed.{IsValue, IsTypedMemory}
 use Rattle.tree_machine.proofs.PlainOf.{load_within}
 use Rattle.tree_machine.proofs.IntegersFit.{unsigned_fits}
-use Rattle.tree_machine.proofs.OperationsTyped.{bits, value_of_bits, all_to, each_to}
+use Rattle.tree_machine.proofs.OperationsTyped.{value_of_bits, all_to, each_to}
 
 little_below : (bytes : List ℕ) → All IsOctet bytes → little_endian bytes < 2 ^ (8 * length bytes)
 little_below [] h = lit< tt

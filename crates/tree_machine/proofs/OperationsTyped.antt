@@ -1,15 +1,12 @@
 -- The numeric instructions give values of the types that the table says.
-use Rattle.std.proofs.Common.{◌≡◌, ◌≢◌, ◌≤◌, ◌<◌, ℕ, zero, suc, ◌+◌, ◌%◌, ◌^◌, ◌⊎◌, inl, inr, ◌==◌, ◌&&◌, ◌||◌, not, Bool, true, false, if◌then◌else◌, Option, Some, None, option_map, Result, Ok, Err, arith, refl, sym, ◌∙◌, ap, subst, lit<}
+use Rattle.std.proofs.Common.{◌≡◌, ◌≢◌, ◌≤◌, ◌<◌, ℕ, zero, suc, ◌%◌, ◌^◌, ◌⊎◌, inl, inr, ◌==◌, ◌&&◌, ◌||◌, not, Bool, true, false, if◌then◌else◌, Option, Some, None, option_map, Result, Ok, Err, arith, refl, ◌∙◌, ap, subst, lit<}
 use Rattle.std.proofs.lemmas.Bool.Decides.{eqb_tells}
-use Rattle.wasm_ops.specs.declared.num.Num.{Num}
-use Rattle.wasm_ops.specs.declared.num.Num.TheVariants as num
 use Rattle.wasm_ops.specs.declared.instruction.Kind.{Kind}
 use Rattle.wasm_ops.specs.declared.instruction.Kind.TheVariants as kinds
 use Rattle.wasm_ops.specs.declared.trap.Trap.{Trap}
 use Rattle.wasm_ops.specs.Table.{kind_of, takes_one, takes_i64, gives_i64, num_if}
-use Rattle.wasm_ops.specs.Integers.{one_if, div_u, rem_u, div_s, rem_s, shl, shr_u, shr_s, quotient, signed, floor_quotient, extend_s}
+use Rattle.wasm_ops.specs.Integers.{signed}
 use Rattle.wasm_ops.specs.Operations.{Unary, Eqz, Clz, Ctz, Popcnt, Wrap, ExtendS, ExtendU, Binary, Eq, Ne, LtS, LtU, GtS, GtU, LeS, LeU, GeS, GeU, Add, Sub, Mul, DivS, DivU, RemS, RemU, And, Or, Xor, Shl, ShrS, ShrU, Rotl, Rotr, unary_of, binary_of, apply_unary, apply_binary, operand_bits, unary_value, binary_value}
-use Rattle.wasm_form.specs.declared.value_type.ValType.{ValType}
 use Rattle.wasm_form.specs.Typing.{value_type}
 use Rattle.tree_machine.specs.Typed.{IsValue}
 use Rattle.tree_machine.proofs.PlainOf.{plain_within}

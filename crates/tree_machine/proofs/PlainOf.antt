@@ -1,5 +1,5 @@
 -- What an instruction is, by its code.
-use Rattle.std.proofs.Common.{◌≡◌, ◌≢◌, ◌≤◌, ◌<◌, ℕ, ◌==◌, ◌&&◌, List, [], ◌∷◌, Option, Some, None, Bool, true, false, if◌then◌else◌, nat_le, option_map, arith, refl, sym, ◌∙◌, ap}
+use Rattle.std.proofs.Common.{◌≡◌, ◌≢◌, ◌≤◌, ℕ, ◌==◌, ◌&&◌, Option, Some, None, Bool, true, false, if◌then◌else◌, nat_le, arith, refl, sym, ◌∙◌, ap}
 use Rattle.std.proofs.lemmas.Bool.{ne_eqb}
 use Rattle.std.proofs.lemmas.Bool.Decides.{nat_tests}
 use Rattle.std.specs.Int.{is_in_range}
@@ -11,7 +11,6 @@ use Rattle.wasm_form.specs.declared.immediates.Immediates.TheVariants as sort_of
 use Rattle.wasm_form.specs.declared.instr.Instr.{Instr}
 use Rattle.wasm_form.specs.declared.instr.Imm.{Imm}
 use Rattle.wasm_form.specs.declared.instr.Imm.TheVariants as imm
-use Rattle.wasm_form.specs.declared.sort.Sort.{Sort}
 use Rattle.wasm_form.specs.declared.sort.Sort.TheVariants as sort
 use Rattle.wasm_form.specs.Instructions.{immediates_of, fits}
 use Rattle.wasm_form.specs.Matching.{sort_at, sort_of, IsPlain}
@@ -285,4 +284,3 @@ global_set_code x = refl
 
 pub plain_global_set : (i : Instr) (x : ℕ) → i.code ≡ 0x24 → i.imm ≡ imm.Index x → plain_of i ≡ Some (op.GlobalSet x)
 plain_global_set i x e f = by_code i 0x24 (imm.Index x) e f ∙ global_set_code x
-

@@ -1,6 +1,5 @@
 -- A typed configuration at an instruction goes on, and is typed again.
-use Rattle.std.specs.Prelude.{⊤}
-use Rattle.std.proofs.Common.{◌≡◌, ℕ, ◌+◌, ◌⊎◌, inl, inr, Bool, true, false, cond, nat_le, nat_eq, List, [], ◌∷◌, ◌++◌, length, reverse, Option, Some, None, option_to_list, refl, sym, ◌∙◌, ap, subst}
+use Rattle.std.proofs.Common.{◌≡◌, ℕ, ◌+◌, inl, inr, Bool, true, false, cond, nat_le, nat_eq, List, [], ◌∷◌, ◌++◌, length, reverse, Option, Some, None, option_to_list, refl, sym, subst}
 use Rattle.host_port.specs.Standing.{Asking, Trapped, Exhausted}
 use Rattle.host_port.specs.declared.stop.Spent.TheVariants as limit
 use Rattle.wasm_form.specs.declared.value_type.ValType.{ValType}
@@ -17,11 +16,11 @@ use Rattle.wasm_form.specs.Typing.{Applies, HasType, Numeric, Parametric, Local,
 use Rattle.tree_machine.specs.Instructions.{plain_of}
 use Rattle.tree_machine.specs.Config.{Label, Leave, Again, Cont, Frame, Config, with_operands}
 use Rattle.tree_machine.specs.Outcomes.{Outcome, Goes, Calls, Traps, Exceeds, Stuck, Gives}
-use Rattle.tree_machine.specs.Control.{result_count, begun, begin_block, begin_loop, begin_if, branch_table}
-use Rattle.tree_machine.specs.Limits.{judged, places, most_values, has_room}
-use Rattle.tree_machine.specs.Point.{Point, point, settle}
+use Rattle.tree_machine.specs.Control.{result_count, begun, begin_block, begin_loop, begin_if}
+use Rattle.tree_machine.specs.Limits.{judged, places, most_values}
+use Rattle.tree_machine.specs.Point.{point, settle}
 use Rattle.tree_machine.specs.Step.{execute, with_rest, next_of, next_in, next_among, next, stands_after, step}
-use Rattle.tree_machine.specs.Typed.{AreValues, HasInstrs, ContTyped, ContsTyped, with_labels, LabelTyped, FrameTyped, FramesTyped, IsTyped, IsNext, HasNextIn, HasNext, IsTypedAt, StandsTyped, IsTypedModule, IsKept}
+use Rattle.tree_machine.specs.Typed.{AreValues, HasInstrs, ContsTyped, with_labels, LabelTyped, FrameTyped, FramesTyped, IsTyped, IsNext, HasNextIn, HasNext, StandsTyped, IsTypedModule, IsKept}
 use Rattle.tree_machine.proofs.ExitsTyped.{settle_keeps}
 use Rattle.tree_machine.proofs.BranchTyped.{IsFrameKept, LaterTyped, begin_keeps}
 use Rattle.tree_machine.proofs.StraightTyped.{numeric_kept, parametric_kept}

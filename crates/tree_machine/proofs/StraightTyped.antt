@@ -1,29 +1,24 @@
 -- Instructions that change operands alone keep them typed.
 use Rattle.std.specs.Prelude.{⊤}
-use Rattle.std.proofs.Common.{◌≡◌, ◌≤◌, ◌<◌, ℕ, ◌+◌, ◌^◌, ◌⊎◌, inl, inr, Bool, true, false, cond, if◌then◌else◌, nat_le, nat_eq, List, [], ◌∷◌, ◌++◌, length, reverse, slice_get, slice_range, Option, Some, None, option_map, option_to_list, Result, Ok, Err, arith, refl, sym, ◌∙◌, ap, subst}
-use Rattle.std.proofs.lemmas.Bool.Decides.{nat_tests}
+use Rattle.std.proofs.Common.{◌≡◌, ℕ, inl, inr, Bool, true, false, cond, if◌then◌else◌, nat_eq, List, [], ◌∷◌, ◌++◌, Option, Some, None, option_map, option_to_list, Result, Ok, Err, refl, sym, ◌∙◌, ap, subst}
 use Rattle.wasm_ops.specs.declared.num.Num.{Num}
 use Rattle.wasm_ops.specs.declared.instruction.Kind.{Kind}
 use Rattle.wasm_ops.specs.declared.instruction.Kind.TheVariants as kinds
 use Rattle.wasm_ops.specs.declared.trap.Trap.{Trap}
-use Rattle.wasm_ops.specs.declared.trap.Trap.TheVariants as traps
-use Rattle.wasm_ops.specs.Table.{kind_of, takes_one, takes_i64, gives_i64, moves_i64, num_if, width_of, first_operand, second_operand, result_type}
+use Rattle.wasm_ops.specs.Table.{kind_of, takes_one, takes_i64, gives_i64, moves_i64, num_if, first_operand, second_operand, result_type}
 use Rattle.wasm_ops.specs.Operations.{unary_value, binary_value}
-use Rattle.linear_memory.specs.Contents.{Contents, page_size}
 use Rattle.wasm_form.specs.declared.value_type.ValType.{ValType}
-use Rattle.wasm_form.specs.declared.value_type.ValType.TheVariants.{I32, I64}
+use Rattle.wasm_form.specs.declared.value_type.ValType.TheVariants.{I32}
 use Rattle.wasm_form.specs.declared.types.FuncType.{FuncType}
 use Rattle.wasm_form.specs.declared.instr.Instr.{Instr}
-use Rattle.wasm_form.specs.declared.instr.Imm.{Imm}
-use Rattle.wasm_form.specs.declared.instr.Imm.TheVariants as imm
 use Rattle.wasm_form.specs.declared.parts.Parts.{Parts}
 use Rattle.wasm_form.specs.Matching.{IsPlain}
 use Rattle.wasm_form.specs.Ranges.{HasImmRange}
-use Rattle.wasm_form.specs.Typing.{arrow, Applies, value_type, listed_type, IsConstant, IsNumeric, IsParametric}
+use Rattle.wasm_form.specs.Typing.{arrow, Applies, value_type, listed_type, IsNumeric, IsParametric}
 use Rattle.tree_machine.specs.Instructions.{Plain, plain_of}
 use Rattle.tree_machine.specs.Instructions as op
 use Rattle.tree_machine.specs.Config.{Config, Frame}
-use Rattle.tree_machine.specs.Outcomes.{Effect, Gives, Fails, Undefined, Outcome, to_operands}
+use Rattle.tree_machine.specs.Outcomes.{Effect, Gives, Fails, Undefined, to_operands}
 use Rattle.tree_machine.specs.Numeric.{unary_on, unary, binary_on, binary}
 use Rattle.tree_machine.specs.Parametric.{drop_one, select}
 use Rattle.tree_machine.specs.Step.{execute_plain, execute}

@@ -1,6 +1,5 @@
 -- Lists of values of given types.
-use Rattle.std.proofs.Common.{◌≡◌, ◌≤◌, ◌<◌, ℕ, zero, suc, ◌+◌, ◌-◌, ◌^◌, List, [], ◌∷◌, ◌++◌, length, take, drop, reverse, replicate, map, nat_le, nat_lt, true, slice_get, slice_set, Option, Some, None, arith, refl, sym, ◌∙◌, ap, add-one, length-append, lit<, subst}
-use Rattle.std.specs.Prelude.{⊤}
+use Rattle.std.proofs.Common.{◌≡◌, ◌≤◌, ◌<◌, ℕ, zero, suc, List, [], ◌∷◌, ◌++◌, length, take, drop, reverse, replicate, slice_get, slice_set, Some, arith, refl, sym, ap, lit<, subst}
 use Rattle.std.proofs.lemmas.List.{reverse-append}
 use Rattle.wasm_form.specs.declared.value_type.ValType.{ValType}
 use Rattle.wasm_form.specs.declared.value_type.ValType.TheVariants.{I32, I64, F32, F64}

@@ -1,5 +1,5 @@
 -- Typed configurations: the typing of a module says of each which types its values have, so that a rule applies to it.
-use Rattle.std.specs.Prelude.{◌≡◌, ℕ, ◌+◌, ◌*◌, ◌%◌, ◌^◌, ◌<◌, ◌≤◌, ⊤, List, [], ◌∷◌, ◌++◌, length, map, reverse, replicate, flat_map, All, slice_get, Option, Some, None, option_to_list, sum_by}
+use Rattle.std.specs.Prelude.{◌≡◌, ℕ, ◌*◌, ◌%◌, ◌^◌, ◌<◌, ◌≤◌, ⊤, List, [], ◌∷◌, ◌++◌, length, map, reverse, replicate, flat_map, All, slice_get, Option, Some, None, option_to_list}
 use Rattle.linear_memory.specs.Contents.{Contents, page_size}
 use Rattle.host_port.specs.Standing.{State, Ready, Asking, Finished, Trapped, Exhausted}
 use Rattle.wasm_form.specs.declared.value_type.ValType.{ValType}
