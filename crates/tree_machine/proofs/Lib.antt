@@ -13,3 +13,5 @@ pub mod InstrTyped
 pub mod CallTyped
 pub mod StepTyped
 pub mod ReplyTyped
+pub mod ModuleTyped
+pub mod SpelledTyped

@@ -10,7 +10,6 @@ use Rattle.wasm_form.specs.declared.instr.Instr.{Instr}
 use Rattle.wasm_form.specs.declared.parts.Parts.{Parts}
 use Rattle.wasm_form.specs.Trees.{Code, Empty, Then, TableOf, BlockOf, LoopOf, IfOf, IfElseOf}
 use Rattle.wasm_form.specs.Matching.{IsPlain}
-use Rattle.wasm_form.specs.Ranges.{HasImmRange}
 use Rattle.wasm_form.specs.Context.{Context, context_of}
 use Rattle.wasm_form.specs.Typing.{Applies, HasType, Numeric, Parametric, Local, Global, Access, MemorySize, Nop, BranchIf, Call, CallIndirect, Leads, Types}
 use Rattle.tree_machine.specs.Instructions.{plain_of}
@@ -20,7 +19,7 @@ use Rattle.tree_machine.specs.Control.{result_count, begun, begin_block, begin_l
 use Rattle.tree_machine.specs.Limits.{judged, places, most_values}
 use Rattle.tree_machine.specs.Point.{point, settle}
 use Rattle.tree_machine.specs.Step.{execute, with_rest, next_of, next_in, next_among, next, stands_after, step}
-use Rattle.tree_machine.specs.Typed.{AreValues, HasInstrs, ContsTyped, with_labels, LabelTyped, FrameTyped, FramesTyped, IsTyped, IsNext, HasNextIn, HasNext, StandsTyped, IsTypedModule, IsKept}
+use Rattle.tree_machine.specs.Typed.{HasConstant, AreValues, HasInstrs, ContsTyped, with_labels, LabelTyped, FrameTyped, FramesTyped, IsTyped, IsNext, HasNextIn, HasNext, StandsTyped, IsTypedModule, IsKept}
 use Rattle.tree_machine.proofs.ExitsTyped.{settle_keeps}
 use Rattle.tree_machine.proofs.BranchTyped.{IsFrameKept, LaterTyped, begin_keeps}
 use Rattle.tree_machine.proofs.StraightTyped.{numeric_kept, parametric_kept}
@@ -52,7 +51,7 @@ module _ (m : Parts) (module_typed : IsTypedModule m) (ty : FuncType) (c : Confi
     conts = (ends, under, record { instrs = instrs; leads = types; label = label; under = lies; outermost = outermost }, conts);
   }
 
-  typed_kept : (i : Instr) (rest : Code) (after : List ValType) (known : FuncType) → IsPlain i → HasImmRange i.imm → HasInstrs rest →
+  typed_kept : (i : Instr) (rest : Code) (after : List ValType) (known : FuncType) → IsPlain i → HasConstant i.imm → HasInstrs rest →
       Types (with_labels (carried ∷ around) (context_of m ty runs)) rest after ends →
       HasType (with_labels (carried ∷ around) (context_of m ty runs)) i known → Applies known stack after →
       IsKept m (execute m (plain_of i) c (with_rest rest f k ks) below)
@@ -79,7 +78,7 @@ module _ (m : Parts) (module_typed : IsTypedModule m) (ty : FuncType) (c : Confi
   typed_kept i rest after known plain range instrs types (CallIndirect is_so) applies =
       call_indirect_kept m module_typed ty runs (carried ∷ around) c (with_rest rest f k ks) below stack after is rest_typed (later rest after instrs types) operands i known is_so applies
 
-  leads_kept : (i : Instr) (rest : Code) (after : List ValType) → IsPlain i → HasImmRange i.imm → HasInstrs rest →
+  leads_kept : (i : Instr) (rest : Code) (after : List ValType) → IsPlain i → HasConstant i.imm → HasInstrs rest →
       Types (with_labels (carried ∷ around) (context_of m ty runs)) rest after ends →
       Leads (with_labels (carried ∷ around) (context_of m ty runs)) i stack after → IsKept m (execute m (plain_of i) c (with_rest rest f k ks) below)
   leads_kept i rest after plain range instrs types (inl (known, has_type, applies)) =

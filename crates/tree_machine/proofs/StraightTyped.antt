@@ -13,7 +13,6 @@ use Rattle.wasm_form.specs.declared.types.FuncType.{FuncType}
 use Rattle.wasm_form.specs.declared.instr.Instr.{Instr}
 use Rattle.wasm_form.specs.declared.parts.Parts.{Parts}
 use Rattle.wasm_form.specs.Matching.{IsPlain}
-use Rattle.wasm_form.specs.Ranges.{HasImmRange}
 use Rattle.wasm_form.specs.Typing.{arrow, Applies, value_type, listed_type, IsNumeric, IsParametric}
 use Rattle.tree_machine.specs.Instructions.{Plain, plain_of}
 use Rattle.tree_machine.specs.Instructions as op
@@ -22,7 +21,7 @@ use Rattle.tree_machine.specs.Outcomes.{Effect, Gives, Fails, Undefined, to_oper
 use Rattle.tree_machine.specs.Numeric.{unary_on, unary, binary_on, binary}
 use Rattle.tree_machine.specs.Parametric.{drop_one, select}
 use Rattle.tree_machine.specs.Step.{execute_plain, execute}
-use Rattle.tree_machine.specs.Typed.{IsValue, AreValues}
+use Rattle.tree_machine.specs.Typed.{HasConstant, IsValue, AreValues}
 use Rattle.tree_machine.proofs.PlainOf.{plain_numeric, plain_i32, plain_i64, plain_drop, plain_select}
 use Rattle.tree_machine.proofs.OperationsTyped.{UnaryKept, BinaryKept, unary_kept, binary_kept}
 
@@ -139,16 +138,16 @@ module _ (m : Parts) (i : Instr) (c : Config) (f : Frame) (below : List Frame) (
   numeric_case ty false e kind listed applies = binary_case ty kind e listed applies
 
   -- numeric instructions
-  pub numeric_kept : (ty : FuncType) → IsPlain i → HasImmRange i.imm → IsNumeric i ty → Applies ty before after → IsStraight m i c f below after
+  pub numeric_kept : (ty : FuncType) → IsPlain i → HasConstant i.imm → IsNumeric i ty → Applies ty before after → IsStraight m i c f below after
   numeric_kept ty plain range (inr (kind, listed)) applies = numeric_case ty (takes_one i.code) refl kind listed applies
   numeric_kept ty plain range (inl (t, inl (code, t_is), e)) applies =
       let is = plain_i32 i plain code in
       constant_kept is.0 t ty is.2
-      (subst (λ (u : ValType). IsValue u is.0) (sym t_is) (subst HasImmRange is.1 range)) e applies
+      (subst (λ (u : ValType). IsValue u is.0) (sym t_is) (subst HasConstant is.1 range)) e applies
   numeric_kept ty plain range (inl (t, inr (code, t_is), e)) applies =
       let is = plain_i64 i plain code in
       constant_kept is.0 t ty is.2
-      (subst (λ (u : ValType). IsValue u is.0) (sym t_is) (subst HasImmRange is.1 range)) e applies
+      (subst (λ (u : ValType). IsValue u is.0) (sym t_is) (subst HasConstant is.1 range)) e applies
 
   -- parametric instructions
   pub parametric_kept : (ty : FuncType) → IsParametric i ty → Applies ty before after → IsStraight m i c f below after

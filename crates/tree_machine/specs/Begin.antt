@@ -1,4 +1,5 @@
--- The begin of a life: what is refused, and where the run stands before its first instruction (Core 1.0, 4.5.4 and 4.5.5).
+-- The begin of a life: what is refused, and where the run stands before its first instruction (Core 1.0, 4.5.4 and
+-- 4.5.5).
 use Rattle.std.specs.Prelude.{ℕ, ◌&&◌, Bool, true, false, cond, nat_le, List, [], ◌++◌, map, find, slice_get, Option, Some, None, option_map, option_and_then, option_to_list, is_some}
 use Rattle.std.specs.Cmp.Lexicographic.{pointwise}
 use Rattle.host_port.specs.HostTable.{same_text}
@@ -35,14 +36,16 @@ entry_of m name = option_map (λ (e : Export). e.index) (find (is_entry m name) 
 
 -- the parameters have the types of the function's, in order
 abbrev pub has_params : Function → List TypedValue → Bool
-has_params function params = pointwise same_value_type (map (λ (p : TypedValue). value_type p.num) params) function.ty.params
+has_params function params =
+    pointwise same_value_type (map (λ (p : TypedValue). value_type p.num) params) function.ty.params
 
 -- the pages that the memory begins with; none without a memory
 abbrev pub least_pages : Option Bounds → ℕ
 least_pages None = 0
 least_pages (Some bounds) = bounds.min
 
--- the first that applies: no entry; parameters of other types; a memory that begins with too many pages; a segment out of bounds
+-- the first that applies: no entry; parameters of other types; a memory that begins with too many pages; a segment out
+-- of bounds
 abbrev pub refusal_of : Option Function → Parts → Start → Option StartRefusal
 refusal_of None m start = Some NoExport
 refusal_of (Some function) m start =

@@ -39,14 +39,17 @@ call None operands c f below = Stuck
 call (Some callee) operands c f below = invoke_with callee (length (type_of callee).params) operands c f below
 
 -- a call of what has to be of this type
-abbrev pub call_typed : Option FuncType → Option Callee → (operands : List ℕ) → Config → Frame → (below : List Frame) → Outcome
+abbrev pub call_typed : Option FuncType → Option Callee → (operands : List ℕ) →
+    Config → Frame → (below : List Frame) → Outcome
 call_typed None callee operands c f below = Stuck
 call_typed (Some ty) None operands c f below = Stuck
 call_typed (Some ty) (Some callee) operands c f below =
     cond (same_type (type_of callee) ty) (call (Some callee) operands c f below) (Traps traps.WrongType)
 
--- a call of an element of the table: past the table's end it traps, then where the element is unset, then where the type differs
-abbrev pub call_element : Parts → (ty : ℕ) → Option (Option ℕ) → (operands : List ℕ) → Config → Frame → (below : List Frame) → Outcome
+-- a call of an element of the table: past the table's end it traps, then where the element is unset, then where the
+-- type differs
+abbrev pub call_element : Parts → (ty : ℕ) → Option (Option ℕ) → (operands : List ℕ) →
+    Config → Frame → (below : List Frame) → Outcome
 call_element m ty None operands c f below = Traps traps.TableBounds
 call_element m ty (Some None) operands c f below = Traps traps.NoElement
 call_element m ty (Some (Some function)) operands c f below =

@@ -32,8 +32,8 @@ pub record Invocation : Type 0 where
   pub function : ℕ
   pub arguments : List ℕ
 
--- the globals; the table, where an element may be unset; the memory, if there is one; the functions still to be entered;
--- and the frames, the innermost first
+-- the globals; the table, where an element may be unset; the memory, if there is one; the functions still to be
+-- entered; and the frames, the innermost first
 pub record Config : Type 0 where
   pub globals : List ℕ
   pub table : List (Option ℕ)

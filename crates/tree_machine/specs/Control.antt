@@ -22,8 +22,8 @@ begin_block result inside f = begun inside (Leave (result_count result)) f
 abbrev pub begin_loop : Option ValType → (inside : Code) → Frame → Frame
 begin_loop result inside f = begun inside (Again result inside) f
 
--- if: a number is taken, and one of the two lists is begun as a block, the other one exactly where the number is 0; an if
--- without else has an empty one
+-- if: a number is taken, and one of the two lists is begun as a block, the other one exactly where the number is 0; an
+-- if without else has an empty one
 abbrev pub begin_if : Option ValType → (inside other : Code) → (operands : List ℕ) → Frame → Effect Frame
 begin_if result inside other [] f = Undefined
 begin_if result inside other (number ∷ below) f =
@@ -39,7 +39,8 @@ leave_block None under f around = Undefined
 leave_block (Some values) under f around = Gives (record f { operands = values ++ under; conts = around })
 
 -- a loop is to be executed again: its operands are dropped, and the loop stands before the rest of the list around it
-abbrev pub repeat_loop : Option ValType → (inside : Code) → (under : List ℕ) → Frame → (around : List Cont) → Effect Frame
+abbrev pub repeat_loop : Option ValType → (inside : Code) → (under : List ℕ) →
+    Frame → (around : List Cont) → Effect Frame
 repeat_loop result inside under f [] = Undefined
 repeat_loop result inside under f (k ∷ ks) =
     Gives (record f { operands = under; conts = record k { rest = LoopOf result inside k.rest } ∷ ks })
@@ -49,7 +50,8 @@ abbrev pub land : Label → (under : List ℕ) → Frame → (around : List Cont
 land (Leave results) under f around = leave_block (topmost results f.operands) under f around
 land (Again result inside) under f around = repeat_loop result inside under f around
 
--- Core 1.0, 4.4.5, br: to the label with this number, the innermost being 0; the lists inside are let go with their operands
+-- Core 1.0, 4.4.5, br: to the label with this number, the innermost being 0; the lists inside are let go with their
+-- operands
 abbrev pub branch_in : ℕ → Frame → List Cont → Effect Frame
 branch_in label f [] = Undefined
 branch_in zero f (k ∷ ks) = land k.label k.under f ks
@@ -61,7 +63,8 @@ branch label f = branch_in label f f.conts
 -- br_if: a number is taken; no branch where it is 0
 abbrev pub branch_if : (label : ℕ) → (operands : List ℕ) → Frame → Effect Frame
 branch_if label [] f = Undefined
-branch_if label (number ∷ below) f = cond (nat_eq number 0) (Gives (with_operands below f)) (branch label (with_operands below f))
+branch_if label (number ∷ below) f =
+    cond (nat_eq number 0) (Gives (with_operands below f)) (branch label (with_operands below f))
 
 -- br_table: a number is taken; the label at its place, or the default label where there is none
 abbrev pub branch_table : (labels : List ℕ) → (last : ℕ) → (operands : List ℕ) → Frame → Effect Frame

@@ -41,7 +41,8 @@ host_call None row = None
 
 -- an imported function is the call that the host table has under the import's names
 abbrev pub imported_callee : Parts → Import → Option Callee
-imported_callee m i = host_call (option_and_then (slice_get m.types) (function_of i.what)) (row_of_import i.«module» i.name)
+imported_callee m i =
+    host_call (option_and_then (slice_get m.types) (function_of i.what)) (row_of_import i.«module» i.name)
 
 -- the function of this type with this body
 abbrev pub function_with : Option FuncType → Option Body → Option Function
@@ -68,7 +69,8 @@ owned (Some function) = Some (Own function)
 -- Core 1.0, 2.5.1, indices: what is called under this index; the imported functions come first
 unfoldable pub callee_of : Parts → (index : ℕ) → Option Callee
 callee_of m index =
-    if nat_lt index (length (imported_functions m)) then option_and_then (imported_callee m) (slice_get (imported_functions m) index)
+    if nat_lt index (length (imported_functions m))
+    then option_and_then (imported_callee m) (slice_get (imported_functions m) index)
     else owned (own_function m index)
 
 -- two value types are the same

@@ -1,5 +1,6 @@
--- What instantiation makes of a module: globals, table and memory (Core 1.0, 4.5.4). It is said for accepted modules: no global is
--- imported, each expression has a value, and there is one table and one memory at most; the defaults below are met in no other.
+-- What instantiation makes of a module: globals, table and memory (Core 1.0, 4.5.4). It is said for accepted modules:
+-- no global is imported, each expression has a value, and there is one table and one memory at most; the defaults below
+-- are met in no other.
 use Rattle.std.specs.Prelude.{ℕ, ◌+◌, ◌*◌, ◌&&◌, Bool, false, nat_le, min, List, [], ◌++◌, length, map, fold, take, drop, replicate, slice_get, Option, Some, None, unwrap_or}
 use Rattle.std.specs.List.{list_all}
 use Rattle.linear_memory.specs.Bytes.{written}
@@ -66,7 +67,8 @@ lies_in places (Some offset) count = nat_le (offset + count) places
 unfoldable pub segments_lie_in : (limit : ℕ) → Parts → Bool
 segments_lie_in limit m =
     list_all (λ (e : Element). lies_in (length (new_table m)) (value_of e.offset) (length e.functions)) m.elements
-    && list_all (λ (s : Segment). lies_in (length (bytes_of (new_memory limit m))) (value_of s.offset) (length s.bytes)) m.segments
+    && list_all
+    (λ (s : Segment). lies_in (length (bytes_of (new_memory limit m))) (value_of s.offset) (length s.bytes)) m.segments
 
 -- the table after these elements were written over it from this place on
 abbrev pub overwritten : List (Option ℕ) → (at : ℕ) → (new : List (Option ℕ)) → List (Option ℕ)
@@ -74,7 +76,8 @@ overwritten table at new = take at table ++ (new ++ drop (at + length new) table
 
 -- an element segment is written: its functions from its offset on
 abbrev pub put_element : List (Option ℕ) → Element → List (Option ℕ)
-put_element table e = overwritten table (unwrap_or (value_of e.offset) 0) (map (λ (function : ℕ). Some function) e.functions)
+put_element table e =
+    overwritten table (unwrap_or (value_of e.offset) 0) (map (λ (function : ℕ). Some function) e.functions)
 
 -- a data segment is written: its bytes from its offset on
 abbrev pub put_segment : Option Contents → Segment → Option Contents

@@ -12,7 +12,8 @@ most_frames = 2048
 abbrev pub most_values : ℕ
 most_values = 32768
 
--- the places of a frame: its locals, its operands, and the blocks, loops and ifs that are open; the body is none of these
+-- the places of a frame: its locals, its operands, and the blocks, loops and ifs that are open; the body is none of
+-- these
 abbrev pub places_of : Frame → ℕ
 places_of f =
     length f.locals + length f.operands + sum_by (λ (k : Cont). length k.under) f.conts + pred (length f.conts)
@@ -25,7 +26,8 @@ places frames = sum_by places_of frames
 abbrev pub has_room : (places : ℕ) → (outcome : Outcome) → Outcome
 has_room n outcome = cond (nat_le n most_values) outcome (Exceeds limit.Values)
 
--- the limit of values is judged by what an instruction leaves; a host call as if its results stood, before the host is asked
+-- the limit of values is judged by what an instruction leaves; a host call as if its results stood, before the host is
+-- asked
 unfoldable pub judged : Outcome → Outcome
 judged (Goes to) = has_room (places to.frames) (Goes to)
 judged (Calls ask results waits) = has_room (places waits.frames + results) (Calls ask results waits)

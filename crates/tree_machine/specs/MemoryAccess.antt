@@ -22,7 +22,8 @@ extended code bytes =
     if is_among signed_loads code then unsigned (loaded_bits code) (signed (8 * width_of code) (little_endian bytes))
     else little_endian bytes
 
--- Core 1.0, 4.4.4, load: the address is the operand plus the offset, without wrapping; past the end of the memory it traps
+-- Core 1.0, 4.4.4, load: the address is the operand plus the offset, without wrapping; past the end of the memory it
+-- traps
 abbrev pub load : (code offset : ℕ) → (bytes operands : List ℕ) → Effect (List ℕ)
 load code offset bytes [] = Undefined
 load code offset bytes (address ∷ below) =
@@ -46,7 +47,8 @@ store_at code address value memory c frames =
     (Traps traps.Bounds)
 
 -- Core 1.0, 4.4.4, store: the value lies on top of the operand of the address
-abbrev pub store : (code offset : ℕ) → Option Contents → (operands : List ℕ) → Config → Frame → (frames : List Frame) → Outcome
+abbrev pub store : (code offset : ℕ) → Option Contents → (operands : List ℕ) →
+    Config → Frame → (frames : List Frame) → Outcome
 store code offset None operands c f frames = Stuck
 store code offset (Some memory) [] c f frames = Stuck
 store code offset (Some memory) (value ∷ []) c f frames = Stuck

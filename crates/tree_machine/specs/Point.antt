@@ -8,7 +8,8 @@ use Rattle.tree_machine.specs.Config.{Config, Frame, Invocation, frame_of, with_
 use Rattle.tree_machine.specs.Limits.{most_values, places}
 use Rattle.tree_machine.specs.Exits.{settled}
 
--- the state of a run, and its configuration: exits are made where it is ready; where the host is asked, the arguments are taken
+-- the state of a run, and its configuration: exits are made where it is ready; where the host is asked, the arguments
+-- are taken
 pub record Point : Type 0 where
   pub state : State
   pub config : Config
@@ -25,8 +26,9 @@ abbrev pub unless_left : List Frame → Config → (goes : Point) → Point
 unless_left [] c goes = goes
 unless_left (f ∷ below) c goes = point Ready (with_frames (f ∷ below) c)
 
--- the first function is entered with these arguments, unless that makes too many values; after its exits the others follow,
--- where it has returned. One that the module does not define is not entered, and no instruction is executed then
+-- the first function is entered with these arguments, unless that makes too many values; after its exits the others
+-- follow, where it has returned. One that the module does not define is not entered, and no instruction is executed
+-- then
 abbrev pub entered : Option Function → (arguments : List ℕ) → (before after : Config) → (others : Point) → Point
 entered None arguments before after others = point Ready before
 entered (Some function) arguments before after others =

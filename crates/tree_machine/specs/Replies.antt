@@ -50,8 +50,9 @@ push_result result (f ∷ below) = with_operands (option_to_list result ++ f.ope
 abbrev pub resumed : Option ℕ → Config → (bytes : List ℕ) → Config
 resumed result c bytes = record c { memory = with_bytes bytes c.memory; frames = push_result result c.frames }
 
--- A run goes on from a reply: the text is written first, and then the word; then the result is pushed, and exits are made. The
--- reply is to have the form of its call; after one with a result of another kind the run may have no further step.
+-- A run goes on from a reply: the text is written first, and then the word; then the result is pushed, and exits are
+-- made. The reply is to have the form of its call; after one with a result of another kind the run may have no further
+-- step.
 unfoldable pub replied : Parts → Config → Reply → Option Point
 replied m c reply =
     option_map (λ bytes. settle m (resumed reply.result c bytes))

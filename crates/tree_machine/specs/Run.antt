@@ -67,8 +67,8 @@ used_up place (call ∷ left) = None
 abbrev pub all_used : Course → Option Point
 all_used r = used_up r.place r.left
 
--- where the run stands after these calls and n instructions, if there is one: it is not refused, the fuel is not passed, and
--- all calls are used
+-- where the run stands after these calls and n instructions, if there is one: it is not refused, the fuel is not
+-- passed, and all calls are used
 unfoldable pub point_at : Parts → Start → List Call → ℕ → Option Point
 point_at m start calls n =
     cond (is_none (begin m start) && nat_le n start.limits.fuel) (option_and_then all_used (run m start calls n)) None

@@ -79,8 +79,8 @@ next_among m c (f ∷ below) = next_in m c f f.conts below
 unfoldable pub next : Parts → Config → Outcome
 next m c = next_among m c c.frames
 
--- Where the run stands then. Exits are made after the limit of values was judged; a trap and a limit leave the configuration
--- as it was, and the host is asked before anything is written
+-- Where the run stands then. Exits are made after the limit of values was judged; a trap and a limit leave the
+-- configuration as it was, and the host is asked before anything is written
 abbrev pub stands_after : Parts → (before : Config) → Outcome → Option Point
 stands_after m before (Goes to) = Some (settle m to)
 stands_after m before (Calls ask results waits) = Some (point (Asking ask) waits)

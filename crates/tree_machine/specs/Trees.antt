@@ -1,5 +1,6 @@
--- Which tree an expression is. A module keeps its expressions flat, and the machine executes their trees. This is the one place
--- that goes over a flat list; that it gives the tree whose flat list an expression is, is the law `one_tree` (src/laws.rt).
+-- Which tree an expression is. A module keeps its expressions flat, and the machine executes their trees. This is the
+-- one place that goes over a flat list; that it gives the tree whose flat list an expression is, is the law `one_tree`
+-- (src/laws.rt).
 use Rattle.std.specs.Prelude.{ℕ, ◌+◌, ◌==◌, if◌then◌else◌, List, [], ◌∷◌, Option, Some, None, slice_range}
 use Rattle.wasm_form.specs.declared.value_type.ValType.{ValType}
 use Rattle.wasm_form.specs.declared.instr.Instr.{Instr}

@@ -10,7 +10,9 @@ use Rattle.wasm_form.specs.declared.body.LocalRun.{LocalRun}
 use Rattle.wasm_form.specs.declared.parts.Parts.{Parts}
 use Rattle.wasm_form.specs.Trees.{Code, Empty, Then, TableOf, BlockOf, LoopOf, IfOf, IfElseOf}
 use Rattle.wasm_form.specs.Matching.{IsPlain}
-use Rattle.wasm_form.specs.Ranges.{HasImmRange, IsOctet}
+use Rattle.wasm_form.specs.Ranges.{IsOctet}
+use Rattle.wasm_form.specs.declared.instr.Imm.{Imm}
+use Rattle.wasm_form.specs.declared.instr.Imm.TheVariants as imm
 use Rattle.wasm_form.specs.Context.{Context, functions_of, memories_of, globals_of, context_of}
 use Rattle.wasm_form.specs.Typing.{Types}
 use Rattle.tree_machine.specs.Functions.{Function, Callee, Host, type_of, own_function, callee_of}
@@ -32,10 +34,16 @@ AreValues (t ∷ ts) (n ∷ ns) = IsValue t n × AreValues ts ns
 AreValues [] (n ∷ ns) = ⊥
 AreValues (t ∷ ts) [] = ⊥
 
--- each instruction that stands by itself is a plain one, with numbers in the ranges of their types
+-- a constant is a value of its type
+abbrev pub HasConstant : Imm → Type 0
+HasConstant (imm.I32 n) = n < 2 ^ 32
+HasConstant (imm.I64 n) = n < 2 ^ 64
+HasConstant i = ⊤
+
+-- each instruction that stands by itself is a plain one, and a constant is a value of its type
 abbrev pub HasInstrs : Code → Type 0
 HasInstrs Empty = ⊤
-HasInstrs (Then i rest) = IsPlain i × HasImmRange i.imm × HasInstrs rest
+HasInstrs (Then i rest) = IsPlain i × HasConstant i.imm × HasInstrs rest
 HasInstrs (TableOf labels last rest) = HasInstrs rest
 HasInstrs (BlockOf result inside rest) = HasInstrs inside × HasInstrs rest
 HasInstrs (LoopOf result inside rest) = HasInstrs inside × HasInstrs rest
@@ -46,17 +54,19 @@ HasInstrs (IfElseOf result inside other rest) = HasInstrs inside × HasInstrs ot
 abbrev pub with_labels : List (List ValType) → Context → Context
 with_labels labels context = record context { labels = labels }
 
--- a branch to the label carries these, and the list under it ends with that stack; there is a list around a loop's, and the loop
--- may begin again
+-- a branch to the label carries these, and the list under it ends with that stack; there is a list around a loop's, and
+-- the loop may begin again
 abbrev pub LabelTyped : Context → Label → (carried ends : List ValType) → (around : List (List ValType)) → Type 0
 LabelTyped context (Leave results) carried ends around = (results ≡ length carried) × (ends ≡ reverse carried)
 LabelTyped context (Again result inside) carried ends [] = ⊥
 LabelTyped context (Again result inside) carried ends (a ∷ around) =
-    (carried ≡ []) × (ends ≡ option_to_list result) × HasInstrs inside × Types (with_labels ([] ∷ a ∷ around) context) inside [] ends
+    (carried ≡ []) × (ends ≡ option_to_list result) × HasInstrs inside
+    × Types (with_labels ([] ∷ a ∷ around) context) inside [] ends
 
--- what is left of a list leads from this stack to the stack with which it ends, and the operands below it have their types; below
--- the body's there are none
-pub record ContTyped (context : Context) (carried : List ValType) (around : List (List ValType)) (k : Cont) (stack ends below : List ValType) : Type 0 where
+-- what is left of a list leads from this stack to the stack with which it ends, and the operands below it have their
+-- types; below the body's there are none
+pub record ContTyped (context : Context) (carried : List ValType) (around : List (List ValType)) (k : Cont)
+    (stack ends below : List ValType) : Type 0 where
   pub instrs : HasInstrs k.rest
   pub leads : Types (with_labels (carried ∷ around) context) k.rest stack ends
   pub label : LabelTyped context k.label carried ends around
@@ -88,7 +98,8 @@ FramesTyped m given (f ∷ below) = (ty : FuncType) × FrameTyped m given f ty �
 
 -- each element that is set is a function
 abbrev pub ElementsKnown : Parts → List (Option ℕ) → Type 0
-ElementsKnown m table = (place index : ℕ) → slice_get table place ≡ Some (Some index) → (callee : Callee) × (callee_of m index ≡ Some callee)
+ElementsKnown m table =
+    (place index : ℕ) → slice_get table place ≡ Some (Some index) → (callee : Callee) × (callee_of m index ≡ Some callee)
 
 -- the bytes of a memory are bytes, whole pages of them, no more than it may have, and its pages are counted by an i32
 pub record IsTypedMemory (memory : Contents) : Type 0 where
@@ -155,7 +166,8 @@ pub record IsTypedFunction (m : Parts) (function : Function) : Type 0 where
 -- a module whose functions are typed, each function that is named being there with its type
 pub record IsTypedModule (m : Parts) : Type 0 where
   pub functions : (index : ℕ) (function : Function) → own_function m index ≡ Some function → IsTypedFunction m function
-  pub callees : (index place : ℕ) (ty : FuncType) → slice_get (functions_of m) index ≡ Some place → slice_get m.types place ≡ Some ty →
+  pub callees : (index place : ℕ) (ty : FuncType) →
+      slice_get (functions_of m) index ≡ Some place → slice_get m.types place ≡ Some ty →
       (callee : Callee) × (callee_of m index ≡ Some callee) × (type_of callee ≡ ty)
 
 -- a rule applies, and what it leaves is typed again; a call of the host waits for the results of its type

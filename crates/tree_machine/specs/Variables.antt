@@ -11,7 +11,8 @@ push_value (Some value) operands = Gives (value ∷ operands)
 -- the frame whose local x has this value, and which has these operands
 abbrev pub set_local : (x value : ℕ) → (operands : List ℕ) → Frame → Effect Frame
 set_local x value operands f =
-    cond (nat_lt x (length f.locals)) (Gives (record f { locals = slice_set f.locals x value; operands = operands })) Undefined
+    cond (nat_lt x (length f.locals))
+    (Gives (record f { locals = slice_set f.locals x value; operands = operands })) Undefined
 
 -- local.set: the topmost operand is taken
 abbrev pub local_set : (x : ℕ) → (operands : List ℕ) → Frame → Effect Frame
