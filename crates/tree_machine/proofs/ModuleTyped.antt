@@ -80,12 +80,12 @@ own_placed m index function e =
     placed_if m (index - length (imported_functions m)) _ _ function refl refl
     (own_if (nat_lt index (length (imported_functions m))) (defined_function m (index - length (imported_functions m))) function e)
 
-body_below : {X : Type 0} (xs : List X) (n : ℕ) (x : X) → slice_get xs n ≡ Some x → n < length xs
+pub body_below : {X : Type 0} (xs : List X) (n : ℕ) (x : X) → slice_get xs n ≡ Some x → n < length xs
 body_below [] n x e = absurd (cc)
 body_below (y ∷ xs) zero x e = omega arith
 body_below (y ∷ xs) (suc n) x e = let less : n < length xs = body_below xs n x e in omega arith
 
-each_at : {X : Type 0} (P : X → Type 0) (xs : List X) (n : ℕ) (x : X) → All P xs → slice_get xs n ≡ Some x → P x
+pub each_at : {X : Type 0} (P : X → Type 0) (xs : List X) (n : ℕ) (x : X) → All P xs → slice_get xs n ≡ Some x → P x
 each_at P [] n x h e = absurd (cc)
 each_at P (y ∷ xs) zero x h e = let same : y ≡ x = cc in subst P same (All-head P y xs h)
 each_at P (y ∷ xs) (suc n) x h e = each_at P xs n x (All-tail P y xs h) e
@@ -116,17 +116,17 @@ module _ (m : Parts) (is : IsRunnable m) where
       subst (IsTypedFunction m) (sym at.is) whole
 
 -- an imported function, by its index among all functions
-record IsImported (P : Import → Type 0) (imports : List Import) (index place : ℕ) : Type 0 where
-  import_of : Import
-  there : slice_get (filter (λ (i : Import). is_some (function_of i.what)) imports) index ≡ Some import_of
-  place_is : function_of import_of.what ≡ Some place
-  has : P import_of
+pub record IsImported (P : Import → Type 0) (imports : List Import) (index place : ℕ) : Type 0 where
+  pub import_of : Import
+  pub there : slice_get (filter (λ (i : Import). is_some (function_of i.what)) imports) index ≡ Some import_of
+  pub place_is : function_of import_of.what ≡ Some place
+  pub has : P import_of
 
 -- the imports that are functions, and their types
-abbrev functions_in : List Import → List Import
+abbrev pub functions_in : List Import → List Import
 functions_in imports = filter (λ (i : Import). is_some (function_of i.what)) imports
 
-abbrev places_in : List Import → List ℕ
+abbrev pub places_in : List Import → List ℕ
 places_in imports = filter_map (λ (i : Import). function_of i.what) imports
 
 functions_none : (i : Import) (imports : List Import) → function_of i.what ≡ None → functions_in (i ∷ imports) ≡ functions_in imports
@@ -175,11 +175,11 @@ count_case : (i : Import) (imports : List Import) (o : Option ℕ) → function_
 count_case i imports None e count = ap length (functions_none i imports e) ∙ count ∙ ap length (sym (places_none i imports e))
 count_case i imports (Some here) e count = ap length (functions_some i imports here e) ∙ ap suc count ∙ ap length (sym (places_some i imports here e))
 
-as_many_places : (imports : List Import) → length (functions_in imports) ≡ length (places_in imports)
+pub as_many_places : (imports : List Import) → length (functions_in imports) ≡ length (places_in imports)
 as_many_places [] = refl
 as_many_places (i ∷ imports) = count_case i imports (function_of i.what) refl (as_many_places imports)
 
-imported_at : (P : Import → Type 0) (imports : List Import) → All P imports → (index place : ℕ) → slice_get (places_in imports) index ≡ Some place →
+pub imported_at : (P : Import → Type 0) (imports : List Import) → All P imports → (index place : ℕ) → slice_get (places_in imports) index ≡ Some place →
     IsImported P imports index place
 imported_at P [] each index place at = absurd (cc)
 imported_at P (i ∷ imports) each index place at =
@@ -187,7 +187,7 @@ imported_at P (i ∷ imports) each index place at =
     (λ n x h. imported_at P imports (All-tail P i imports each) n x h) (as_many_places imports) index place at).0
 
 -- a place of two lists
-at_append : (xs ys : List ℕ) (n y : ℕ) → slice_get (xs ++ ys) n ≡ Some y →
+pub at_append : (xs ys : List ℕ) (n y : ℕ) → slice_get (xs ++ ys) n ≡ Some y →
     ((n < length xs) × (slice_get xs n ≡ Some y)) ⊎ ((length xs ≤ n) × (slice_get ys (n - length xs) ≡ Some y))
 at_append [] ys n y e = let same : n - 0 ≡ n = omega arith in inr (omega arith, ap (slice_get ys) same ∙ e)
 at_append (x ∷ xs) ys zero y e = inl (omega arith, e)
@@ -196,17 +196,17 @@ at_append (x ∷ xs) ys (suc n) y e =
     [ inl h ↦ inl (let less : n < length xs = h.0 in omega arith, h.1)
     | inr h ↦ inr (let most : length xs ≤ n = h.0 in omega arith, let same : suc n - suc (length xs) ≡ n - length xs = omega arith in ap (slice_get ys) same ∙ h.1) ]
 
-row_there : (o : Option Row) → IsSome o → (row : Row) × (o ≡ Some row)
+pub row_there : (o : Option Row) → IsSome o → (row : Row) × (o ≡ Some row)
 row_there None h = absurd (cc)
 row_there (Some row) h = (row, refl)
 
-body_there : {X : Type 0} (xs : List X) (n : ℕ) → n < length xs → (x : X) × (slice_get xs n ≡ Some x)
+pub body_there : {X : Type 0} (xs : List X) (n : ℕ) → n < length xs → (x : X) × (slice_get xs n ≡ Some x)
 body_there [] n less = absurd (omega arith)
 body_there (x ∷ xs) zero less = (x, refl)
 body_there (x ∷ xs) (suc n) less = body_there xs n (omega arith)
 
 -- a callee of this type
-abbrev IsFound : Parts → (index : ℕ) → FuncType → Type 0
+abbrev pub IsFound : Parts → (index : ℕ) → FuncType → Type 0
 IsFound m index ty = (callee : Callee) × (callee_of m index ≡ Some callee) × (type_of callee ≡ ty)
 
 module _ (m : Parts) (is : IsRunnable m) (index place : ℕ) (ty : FuncType) (type_is : slice_get m.types place ≡ Some ty) where
@@ -243,7 +243,7 @@ module _ (m : Parts) (is : IsRunnable m) (index place : ℕ) (ty : FuncType) (ty
       ap (λ (b : Bool). if b then option_and_then (imported_callee m) (slice_get (imported_functions m) index) else owned (if b then None else defined_function m k)) test
       ∙ ap owned known, refl)
 
-  found : slice_get (functions_of m) index ≡ Some place → IsFound m index ty
+  pub found : slice_get (functions_of m) index ≡ Some place → IsFound m index ty
   found at =
       elim (at_append (places_in m.imports) m.functions index place at) as (λ w. IsFound m index ty)
       [ inl h ↦ found_import h.0 h.1 | inr h ↦ found_own h.0 h.1 ]
