@@ -15,3 +15,4 @@ pub mod StepTyped
 pub mod ReplyTyped
 pub mod ModuleTyped
 pub mod SpelledTyped
+pub mod InstanceTyped
