@@ -77,7 +77,7 @@ both true true e = (refl, refl)
 both true false e = absurd (cc)
 both false b e = absurd (cc)
 
-same_values : (ts us : List ValType) → pointwise same_value_type ts us ≡ true → ts ≡ us
+pub same_values : (ts us : List ValType) → pointwise same_value_type ts us ≡ true → ts ≡ us
 same_values [] [] e = refl
 same_values [] (u ∷ us) e = absurd (cc)
 same_values (t ∷ ts) [] e = absurd (cc)

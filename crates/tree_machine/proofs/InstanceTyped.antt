@@ -1,45 +1,32 @@
 -- Instantiation of a valid module gives typed globals, a table of known functions and a typed memory.
-use Rattle.std.specs.Prelude.{⊤, MatchOption}
-use Rattle.std.proofs.Common.{◌≡◌, ◌≢◌, ◌≤◌, ◌<◌, ℕ, zero, suc, ◌+◌, ◌*◌, ◌%◌, ◌^◌, ◌&&◌, inl, inr, min, Bool, true, false, cond, nat_le, All, List, [], ◌∷◌, ◌++◌, length, map, filter_map, fold, take, drop, replicate, slice_get, Option, Some, None, unwrap_or, arith, refl, sym, ◌∙◌, ap, subst, lit<, append-nil, length-append, length-take, length-drop}
-use Rattle.std.proofs.lemmas.Bool.Decides.{nat_tests}
-use Rattle.std.proofs.lemmas.List.{length-replicate}
-use Rattle.std.proofs.lemmas.List.Elements.{All-nil, All-cons, All-head, All-tail, All-append, All-take, All-drop, All-map, All-replicate}
-use Rattle.std.specs.List.{list_all}
-use Rattle.linear_memory.specs.Bytes.{written}
-use Rattle.linear_memory.specs.Contents.{Contents, page_size}
+use Rattle.std.specs.Prelude.{⊤}
+use Rattle.std.proofs.Common.{◌≡◌, ◌≤◌, ◌<◌, ℕ, ◌+◌, inl, inr, All, List, [], ◌∷◌, ◌++◌, length, map, filter_map, fold, take, drop, slice_get, Option, Some, None, unwrap_or, arith, refl, sym, ◌∙◌, ap, subst}
+use Rattle.std.proofs.lemmas.List.Elements.{All-nil, All-cons, All-head, All-tail, All-append, All-take, All-drop, All-replicate}
 use Rattle.wasm_form.specs.declared.value_type.ValType.{ValType}
-use Rattle.wasm_form.specs.declared.value_type.ValType.TheVariants.{I32, I64}
-use Rattle.wasm_form.specs.declared.types.FuncType.{FuncType}
 use Rattle.wasm_form.specs.declared.types.Bounds.{Bounds}
 use Rattle.wasm_form.specs.declared.types.GlobalType.{GlobalType}
 use Rattle.wasm_form.specs.declared.instr.Instr.{Instr}
-use Rattle.wasm_form.specs.declared.instr.Imm.{Imm}
-use Rattle.wasm_form.specs.declared.instr.Imm.TheVariants as imm
 use Rattle.wasm_form.specs.declared.expr.Expr.{Expr}
 use Rattle.wasm_form.specs.declared.parts.Imported.{Imported}
 use Rattle.wasm_form.specs.declared.parts.Imported.TheVariants as imported
 use Rattle.wasm_form.specs.declared.parts.Import.{Import}
 use Rattle.wasm_form.specs.declared.parts.GlobalDef.{GlobalDef}
 use Rattle.wasm_form.specs.declared.parts.Element.{Element}
-use Rattle.wasm_form.specs.declared.parts.Segment.{Segment}
 use Rattle.wasm_form.specs.declared.parts.Parts.{Parts}
 use Rattle.wasm_form.specs.Trees.{Code, Empty, Then, TableOf, BlockOf, LoopOf, IfOf, IfElseOf, end_instr, flat, IsFlat}
 use Rattle.wasm_form.specs.Matching.{IsPlain}
-use Rattle.wasm_form.specs.Ranges.{IsOctet}
-use Rattle.wasm_form.specs.Context.{functions_of, memories_of, global_of, imported_globals, globals_of}
+use Rattle.wasm_form.specs.Context.{functions_of, global_of, imported_globals, globals_of}
 use Rattle.wasm_form.specs.Typing.{IsConstant}
-use Rattle.wasm_form.specs.Validity.{IsConstantInstr, IsConstantExpr, IsLimits, IsElement}
+use Rattle.wasm_form.specs.Validity.{IsConstantExpr, IsElement}
 use Rattle.wasm_form.specs.Profile.{IsFunction}
-use Rattle.tree_machine.specs.Trees.{tree_of}
 use Rattle.tree_machine.specs.Instructions.{Plain, plain_of}
 use Rattle.tree_machine.specs.Instructions as op
 use Rattle.tree_machine.specs.Functions.{Callee, callee_of}
-use Rattle.tree_machine.specs.Config.{bytes_of}
-use Rattle.tree_machine.specs.Instantiation.{constant_of, constant_in, value_of, new_globals, table_with, new_table, most_pages, memory_with, new_memory, lies_in, overwritten, put_element, put_segment, first_table, first_memory}
-use Rattle.tree_machine.specs.Typed.{IsValue, AreValues, HasConstant, HasInstrs, ElementsKnown, IsTypedMemory, MemoryTyped}
+use Rattle.tree_machine.specs.Instantiation.{constant_of, constant_in, value_of, new_globals, table_with, new_table, put_element, first_table}
+use Rattle.tree_machine.specs.Typed.{IsValue, AreValues, HasConstant, HasInstrs, ElementsKnown}
 use Rattle.tree_machine.proofs.PlainOf.{plain_i32, plain_i64}
 use Rattle.tree_machine.proofs.Reading.{tree_is_read}
-use Rattle.tree_machine.proofs.ModuleTyped.{HasInstrTree, IsRunnable, IsFound, each_at, body_there, found}
+use Rattle.tree_machine.proofs.ModuleTyped.{HasInstrTree, IsRunnable, each_at, body_there, found}
 
 -- no global is imported where functions alone are
 function_no_global : (what : Imported) → IsFunction what → global_of what ≡ None
@@ -106,10 +93,11 @@ globals_from : (m : Parts) (globals : List GlobalDef) → imported_globals m ≡
 globals_from m [] none trees constants = tt
 globals_from m (g ∷ globals) none trees constants =
     let value = expr_value m g.init g.ty.ty none (All-head (λ (g : GlobalDef). HasInstrTree g.init) g globals trees)
-    (All-head (λ (g : GlobalDef). IsConstantExpr m g.init g.ty.ty) g globals constants) in
-    (subst (λ (o : Option ℕ). IsValue g.ty.ty (unwrap_or o 0)) (sym value.1) value.2,
-    globals_from m globals none (All-tail (λ (g : GlobalDef). HasInstrTree g.init) g globals trees)
-    (All-tail (λ (g : GlobalDef). IsConstantExpr m g.init g.ty.ty) g globals constants))
+    (All-head (λ (g : GlobalDef). IsConstantExpr m g.init g.ty.ty) g globals constants) in (
+      subst (λ (o : Option ℕ). IsValue g.ty.ty (unwrap_or o 0)) (sym value.1) value.2,
+      globals_from m globals none (All-tail (λ (g : GlobalDef). HasInstrTree g.init) g globals trees)
+          (All-tail (λ (g : GlobalDef). IsConstantExpr m g.init g.ty.ty) g globals constants),
+    )
 
 pub globals_typed : (m : Parts) → imported_globals m ≡ [] → All (λ (g : GlobalDef). HasInstrTree g.init) m.globals →
     All (λ (g : GlobalDef). IsConstantExpr m g.init g.ty.ty) m.globals →

@@ -16,3 +16,5 @@ pub mod ReplyTyped
 pub mod ModuleTyped
 pub mod SpelledTyped
 pub mod InstanceTyped
+pub mod BeginTyped
+pub mod RunsTyped

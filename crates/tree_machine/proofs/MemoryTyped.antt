@@ -87,23 +87,28 @@ low_octets (suc count) n =
     let low : n % 256 < 2 ^ 8 = let byte : 2 ^ 8 ≡ 256 = refl in omega arith in
     All-cons IsOctet (n % 256) (low_bytes count (n / 256)) low (low_octets count (n / 256))
 
-length-written : (bytes new : List ℕ) (at : ℕ) → at + length new ≤ length bytes → length (written bytes at new) ≡ length bytes
+pub length-written : (bytes new : List ℕ) (at : ℕ) → at + length new ≤ length bytes → length (written bytes at new) ≡ length bytes
 length-written bytes new at fits = simp (length-append, length-take, length-drop) (omega arith)
+
+-- bytes that are written leave a memory typed
+pub written_typed : (memory : Contents) (at : ℕ) (new : List ℕ) → IsTypedMemory memory → All IsOctet new → at + length new ≤ length memory.bytes →
+    IsTypedMemory (record memory { bytes = written memory.bytes at new })
+written_typed memory at new is octets fits =
+    let same : length (written memory.bytes at new) ≡ length memory.bytes = length-written memory.bytes new at fits in
+    record {
+      octets = All-append IsOctet (take at memory.bytes) (new ++ drop (at + length new) memory.bytes) (All-take IsOctet at memory.bytes is.octets)
+          (All-append IsOctet new (drop (at + length new) memory.bytes) octets (All-drop IsOctet (at + length new) memory.bytes is.octets));
+      whole = rw same is.whole;
+      within = rw same is.within;
+      most = is.most;
+    }
 
 -- a store leaves a memory typed
 pub stored_typed : (memory : Contents) (at count n : ℕ) → IsTypedMemory memory → at + count ≤ length memory.bytes →
     IsTypedMemory (record memory { bytes = written memory.bytes at (low_bytes count n) })
 stored_typed memory at count n is fits =
-    let new = low_bytes count n in
-    let size : length new ≡ count = length-low_bytes count n in
-    let same : length (written memory.bytes at new) ≡ length memory.bytes = length-written memory.bytes new at (omega arith) in
-    record {
-      octets = All-append IsOctet (take at memory.bytes) (new ++ drop (at + length new) memory.bytes) (All-take IsOctet at memory.bytes is.octets)
-          (All-append IsOctet new (drop (at + length new) memory.bytes) (low_octets count n) (All-drop IsOctet (at + length new) memory.bytes is.octets));
-      whole = rw same is.whole;
-      within = rw same is.within;
-      most = is.most;
-    }
+    let size : length (low_bytes count n) ≡ count = length-low_bytes count n in
+    written_typed memory at (low_bytes count n) is (low_octets count n) (omega arith)
 
 pages_whole : (memory : Contents) → IsTypedMemory memory → length memory.bytes ≡ pages_in memory * page_size
 pages_whole memory is = let whole : length memory.bytes % page_size ≡ 0 = is.whole in omega arith

@@ -1,5 +1,5 @@
 -- The functions of a valid module are typed, and each that is named is there.
-use Rattle.std.proofs.Common.{◌≡◌, ◌≢◌, ◌≤◌, ◌<◌, ℕ, zero, suc, ◌+◌, ◌-◌, ◌⊎◌, inl, inr, Bool, true, false, cond, if◌then◌else◌, nat_lt, All, IsSome, List, [], ◌∷◌, ◌++◌, length, filter, filter_map, flat_map, replicate, sum_by, fold, slice_get, reverse, Option, Some, None, option_and_then, is_some, arith, refl, sym, ◌∙◌, ap, subst, length-append}
+use Rattle.std.proofs.Common.{◌≡◌, ◌≤◌, ◌<◌, ℕ, zero, suc, ◌+◌, ◌-◌, ◌⊎◌, inl, inr, Bool, true, false, if◌then◌else◌, nat_lt, All, IsSome, List, [], ◌∷◌, ◌++◌, length, filter, filter_map, flat_map, replicate, sum_by, fold, slice_get, reverse, Option, Some, None, option_and_then, is_some, arith, refl, sym, ◌∙◌, ap, subst, length-append}
 use Rattle.std.proofs.lemmas.Bool.Decides.{nat_tests}
 use Rattle.std.proofs.lemmas.List.{length-replicate}
 use Rattle.std.proofs.lemmas.List.Elements.{All-head, All-tail}
@@ -7,10 +7,8 @@ use Rattle.host_port.specs.HostTable.{Row, row_of_import}
 use Rattle.wasm_form.specs.declared.types.FuncType.{FuncType}
 use Rattle.wasm_form.specs.declared.body.Body.{Body}
 use Rattle.wasm_form.specs.declared.body.LocalRun.{LocalRun}
-use Rattle.wasm_form.specs.declared.instr.Instr.{Instr}
 use Rattle.wasm_form.specs.declared.parts.Import.{Import}
 use Rattle.wasm_form.specs.declared.parts.Parts.{Parts}
-use Rattle.wasm_form.specs.declared.value_type.ValType.{ValType}
 use Rattle.wasm_form.specs.Trees.{Code, Empty, Then, TableOf, BlockOf, LoopOf, IfOf, IfElseOf, IsFlat}
 use Rattle.wasm_form.specs.Matching.{HasPlain}
 use Rattle.wasm_form.specs.declared.expr.Expr.{Expr}
@@ -49,7 +47,7 @@ counted [] start = omega arith
 counted (run ∷ runs) start =
     let next = counted runs (start + run.count) in
     let size : length (replicate run.count run.ty ++ flat_map (λ (run : LocalRun). replicate run.count run.ty) runs)
-        ≡ run.count + length (flat_map (λ (run : LocalRun). replicate run.count run.ty) runs) =
+    ≡ run.count + length (flat_map (λ (run : LocalRun). replicate run.count run.ty) runs) =
     length-append (replicate run.count run.ty) (flat_map (λ (run : LocalRun). replicate run.count run.ty) runs)
     ∙ ap (λ (n : ℕ). n + length (flat_map (λ (run : LocalRun). replicate run.count run.ty) runs)) (length-replicate run.count run.ty) in
     omega arith
@@ -146,29 +144,35 @@ imported_case : (P : Import → Type 0) (i : Import) (imports : List Import) (o 
     length (functions_in imports) ≡ length (places_in imports) → (index place : ℕ) → slice_get (places_in (i ∷ imports)) index ≡ Some place →
     IsImported P (i ∷ imports) index place × (length (functions_in (i ∷ imports)) ≡ length (places_in (i ∷ imports)))
 imported_case P i imports None e p others count index place at =
-    let before = others index place (ap (λ (xs : List ℕ). slice_get xs index) (sym (places_none i imports e)) ∙ at) in
-    (record {
-      import_of = before.import_of;
-      there = ap (λ (xs : List Import). slice_get xs index) (functions_none i imports e) ∙ before.there;
-      place_is = before.place_is;
-      has = before.has;
-    }, ap length (functions_none i imports e) ∙ count ∙ ap length (sym (places_none i imports e)))
+    let before = others index place (ap (λ (xs : List ℕ). slice_get xs index) (sym (places_none i imports e)) ∙ at) in (
+      record {
+        import_of = before.import_of;
+        there = ap (λ (xs : List Import). slice_get xs index) (functions_none i imports e) ∙ before.there;
+        place_is = before.place_is;
+        has = before.has;
+      },
+      ap length (functions_none i imports e) ∙ count ∙ ap length (sym (places_none i imports e)),
+    )
 imported_case P i imports (Some here) e p others count zero place at =
-    let first : Some here ≡ Some place = ap (λ (xs : List ℕ). slice_get xs 0) (sym (places_some i imports here e)) ∙ at in
-    (record {
-      import_of = i;
-      there = ap (λ (xs : List Import). slice_get xs 0) (functions_some i imports here e);
-      place_is = e ∙ first;
-      has = p;
-    }, ap length (functions_some i imports here e) ∙ ap suc count ∙ ap length (sym (places_some i imports here e)))
+    let first : Some here ≡ Some place = ap (λ (xs : List ℕ). slice_get xs 0) (sym (places_some i imports here e)) ∙ at in (
+      record {
+        import_of = i;
+        there = ap (λ (xs : List Import). slice_get xs 0) (functions_some i imports here e);
+        place_is = e ∙ first;
+        has = p;
+      },
+      ap length (functions_some i imports here e) ∙ ap suc count ∙ ap length (sym (places_some i imports here e)),
+    )
 imported_case P i imports (Some here) e p others count (suc index) place at =
-    let before = others index place (ap (λ (xs : List ℕ). slice_get xs (suc index)) (sym (places_some i imports here e)) ∙ at) in
-    (record {
-      import_of = before.import_of;
-      there = ap (λ (xs : List Import). slice_get xs (suc index)) (functions_some i imports here e) ∙ before.there;
-      place_is = before.place_is;
-      has = before.has;
-    }, ap length (functions_some i imports here e) ∙ ap suc count ∙ ap length (sym (places_some i imports here e)))
+    let before = others index place (ap (λ (xs : List ℕ). slice_get xs (suc index)) (sym (places_some i imports here e)) ∙ at) in (
+      record {
+        import_of = before.import_of;
+        there = ap (λ (xs : List Import). slice_get xs (suc index)) (functions_some i imports here e) ∙ before.there;
+        place_is = before.place_is;
+        has = before.has;
+      },
+      ap length (functions_some i imports here e) ∙ ap suc count ∙ ap length (sym (places_some i imports here e)),
+    )
 
 count_case : (i : Import) (imports : List Import) (o : Option ℕ) → function_of i.what ≡ o → length (functions_in imports) ≡ length (places_in imports) →
     length (functions_in (i ∷ imports)) ≡ length (places_in (i ∷ imports))
@@ -192,9 +196,10 @@ pub at_append : (xs ys : List ℕ) (n y : ℕ) → slice_get (xs ++ ys) n ≡ So
 at_append [] ys n y e = let same : n - 0 ≡ n = omega arith in inr (omega arith, ap (slice_get ys) same ∙ e)
 at_append (x ∷ xs) ys zero y e = inl (omega arith, e)
 at_append (x ∷ xs) ys (suc n) y e =
-    elim (at_append xs ys n y e) as (λ w. ((suc n < length (x ∷ xs)) × (slice_get (x ∷ xs) (suc n) ≡ Some y)) ⊎ ((length (x ∷ xs) ≤ suc n) × (slice_get ys (suc n - length (x ∷ xs)) ≡ Some y)))
-    [ inl h ↦ inl (let less : n < length xs = h.0 in omega arith, h.1)
-    | inr h ↦ inr (let most : length xs ≤ n = h.0 in omega arith, let same : suc n - suc (length xs) ≡ n - length xs = omega arith in ap (slice_get ys) same ∙ h.1) ]
+    elim (at_append xs ys n y e) as (λ w. ((suc n < length (x ∷ xs)) × (slice_get (x ∷ xs) (suc n) ≡ Some y)) ⊎ ((length (x ∷ xs) ≤ suc n) × (slice_get ys (suc n - length (x ∷ xs)) ≡ Some y))) [
+      | inl h ↦ inl (let less : n < length xs = h.0 in omega arith, h.1)
+      | inr h ↦ inr (let most : length xs ≤ n = h.0 in omega arith, let same : suc n - suc (length xs) ≡ n - length xs = omega arith in ap (slice_get ys) same ∙ h.1)
+    ]
 
 pub row_there : (o : Option Row) → IsSome o → (row : Row) × (o ≡ Some row)
 row_there None h = absurd (cc)
@@ -220,10 +225,12 @@ module _ (m : Parts) (is : IsRunnable m) (index place : ℕ) (ty : FuncType) (ty
       let known : imported_callee m one.import_of ≡ Some (Host ty row.0.call) =
       ap (λ (o : Option ℕ). host_call (option_and_then (slice_get m.types) o) (row_of_import one.import_of.«module» one.import_of.name)) one.place_is
       ∙ ap (λ (t : Option FuncType). host_call t (row_of_import one.import_of.«module» one.import_of.name)) type_is
-      ∙ ap (host_call (Some ty)) row.1 in
-      (Host ty row.0.call,
-      ap (λ (b : Bool). if b then option_and_then (imported_callee m) (slice_get (imported_functions m) index) else owned (own_function m index)) test
-      ∙ ap (option_and_then (imported_callee m)) one.there ∙ known, refl)
+      ∙ ap (host_call (Some ty)) row.1 in (
+        Host ty row.0.call,
+        ap (λ (b : Bool). if b then option_and_then (imported_callee m) (slice_get (imported_functions m) index) else owned (own_function m index)) test
+            ∙ ap (option_and_then (imported_callee m)) one.there ∙ known,
+        refl,
+      )
 
   found_own : length (places_in m.imports) ≤ index → slice_get m.functions (index - length (places_in m.imports)) ≡ Some place → IsFound m index ty
   unfolding callee_of own_function
@@ -238,15 +245,36 @@ module _ (m : Parts) (is : IsRunnable m) (index place : ℕ) (ty : FuncType) (ty
       let function : Function = record { ty = ty; locals = sum_by (λ (run : LocalRun). run.count) body.0.locals; code = tree_of body.0.expr } in
       let known : defined_function m k ≡ Some function =
       ap (λ (o : Option ℕ). function_with (option_and_then (slice_get m.types) o) (slice_get m.bodies k)) here
-      ∙ ap (λ (t : Option FuncType). function_with t (slice_get m.bodies k)) type_is ∙ ap (function_with (Some ty)) body.1 in
-      (Own function,
-      ap (λ (b : Bool). if b then option_and_then (imported_callee m) (slice_get (imported_functions m) index) else owned (if b then None else defined_function m k)) test
-      ∙ ap owned known, refl)
+      ∙ ap (λ (t : Option FuncType). function_with t (slice_get m.bodies k)) type_is ∙ ap (function_with (Some ty)) body.1 in (
+        Own function,
+        ap (λ (b : Bool). if b then option_and_then (imported_callee m) (slice_get (imported_functions m) index) else owned (if b then None else defined_function m k)) test
+            ∙ ap owned known,
+        refl,
+      )
 
   pub found : slice_get (functions_of m) index ≡ Some place → IsFound m index ty
   found at =
       elim (at_append (places_in m.imports) m.functions index place at) as (λ w. IsFound m index ty)
       [ inl h ↦ found_import h.0 h.1 | inr h ↦ found_own h.0 h.1 ]
+
+-- a function that is no imported one is the module's own
+pub own_there : (m : Parts) → IsRunnable m → (index place : ℕ) (ty : FuncType) → slice_get m.types place ≡ Some ty →
+    length (places_in m.imports) ≤ index → slice_get m.functions (index - length (places_in m.imports)) ≡ Some place →
+    (function : Function) × (own_function m index ≡ Some function) × (function.ty ≡ ty)
+unfolding own_function
+own_there m is index place ty type_is most at =
+    let count : length (imported_functions m) ≡ length (places_in m.imports) = as_many_places m.imports in
+    let test : nat_lt index (length (imported_functions m)) ≡ false = grind (arith, nat_tests) in
+    let k = index - length (imported_functions m) in
+    let here : slice_get m.functions k ≡ Some place = ap (λ (n : ℕ). slice_get m.functions (index - n)) count ∙ at in
+    let less : k < length m.functions = body_below m.functions k place here in
+    let counts : length m.functions ≡ length m.bodies = is.counts in
+    let body = body_there m.bodies k (omega arith) in
+    let function : Function = record { ty = ty; locals = sum_by (λ (run : LocalRun). run.count) body.0.locals; code = tree_of body.0.expr } in
+    let known : defined_function m k ≡ Some function =
+    ap (λ (o : Option ℕ). function_with (option_and_then (slice_get m.types) o) (slice_get m.bodies k)) here
+    ∙ ap (λ (t : Option FuncType). function_with t (slice_get m.bodies k)) type_is ∙ ap (function_with (Some ty)) body.1 in
+    (function, ap (λ (b : Bool). if b then None else defined_function m k) test ∙ known, refl)
 
 -- an accepted module, read from bytes, is a typed one
 pub runnable_typed : (m : Parts) → IsRunnable m → IsTypedModule m

@@ -1,6 +1,6 @@
 -- The expressions of a module that bytes spell are trees of plain instructions, with constants in range.
 use Rattle.std.specs.Prelude.{⊤, MatchOption}
-use Rattle.std.proofs.Common.{◌≡◌, ◌<◌, ◌≤◌, ℕ, ◌+◌, ◌-◌, ◌*◌, ◌^◌, ◌==◌, inl, inr, Bool, true, false, cond, if◌then◌else◌, find, All, List, [], ◌∷◌, ◌++◌, Option, Some, None, arith, refl, sym, ◌∙◌, ap, subst, ℤ, pos, ◌+ℤ◌, ◌≤ℤ◌, ◌<ℤ◌}
+use Rattle.std.proofs.Common.{◌≡◌, ◌<◌, ℕ, ◌+◌, ◌-◌, ◌*◌, ◌^◌, ◌==◌, inl, inr, Bool, true, false, cond, if◌then◌else◌, find, All, List, [], ◌∷◌, ◌++◌, Option, Some, None, arith, refl, sym, ◌∙◌, ap, subst, ℤ, pos, ◌+ℤ◌, ◌≤ℤ◌, ◌<ℤ◌}
 use Rattle.std.proofs.lemmas.Nat.{pow-add}
 use Rattle.std.proofs.lemmas.Int.{ints}
 use Rattle.leb_read.specs.Numbers.{SpellsSigned}
@@ -9,7 +9,6 @@ use Rattle.std.proofs.lemmas.List.Elements.{All-nil, All-cons, All-head, All-tai
 use Rattle.std.specs.Int.{cast_unsigned, w32, w64}
 use Rattle.wasm_form.specs.declared.instr.Instr.{Instr}
 use Rattle.wasm_form.specs.declared.instr.Imm.{Imm}
-use Rattle.wasm_form.specs.declared.instr.Imm.TheVariants as imm
 use Rattle.wasm_form.specs.declared.immediates.Immediates.{Immediates}
 use Rattle.wasm_form.specs.declared.immediates.Immediates.TheVariants as kind
 use Rattle.wasm_form.specs.declared.sort.Sort.TheVariants as sort
@@ -19,7 +18,7 @@ use Rattle.wasm_form.specs.declared.parts.GlobalDef.{GlobalDef}
 use Rattle.wasm_form.specs.declared.parts.Segment.{Segment}
 use Rattle.wasm_form.specs.declared.parts.Parts.{Parts}
 use Rattle.wasm_form.specs.Values.{SpellsItems, SpellsVector}
-use Rattle.wasm_form.specs.Instructions.{immediates_of, SpellsImmediates, SpellsPlain, fits}
+use Rattle.wasm_form.specs.Instructions.{SpellsImmediates, SpellsPlain, fits}
 use Rattle.wasm_form.specs.Trees.{Code, Empty, Then, TableOf, BlockOf, LoopOf, IfOf, IfElseOf, SpellsCode, SpellsExpr}
 use Rattle.wasm_form.specs.Matching.{sort_at, sort_of, IsPlain}
 use Rattle.wasm_form.specs.Sections.{SpellsGlobal, SpellsGlobals, SpellsBody, SpellsBodies, SpellsSegment, SpellsSegments}
@@ -73,9 +72,11 @@ fit_spelled kind.F64 bytes j (count, e) = subst (IsFit kind.F64) (sym e) (refl, 
 spelled_plain : (bytes : List ℕ) (i : Instr) → SpellsPlain bytes i → IsPlain i × HasConstant i.imm
 unfolding sort_of
 spelled_plain bytes i (k, immediates, known, spelled, whole) =
-    let fit = fit_spelled k immediates i.imm spelled in
-    (ap (λ (o : Option Immediates). sort_at o i.code i.imm) known
-    ∙ ap (λ (b : Bool). if b then Some sort.Plain else None) fit.0, fit.1)
+    let fit = fit_spelled k immediates i.imm spelled in (
+      ap (λ (o : Option Immediates). sort_at o i.code i.imm) known
+          ∙ ap (λ (b : Bool). if b then Some sort.Plain else None) fit.0,
+      fit.1,
+    )
 
 spelled_instrs : (tree : Code) (bytes : List ℕ) → SpellsCode bytes tree → HasInstrs tree
 spelled_instrs Empty bytes h = tt

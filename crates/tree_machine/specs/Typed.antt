@@ -1,5 +1,5 @@
 -- Typed configurations: the typing of a module says of each which types its values have, so that a rule applies to it.
-use Rattle.std.specs.Prelude.{◌≡◌, ℕ, ◌*◌, ◌%◌, ◌^◌, ◌<◌, ◌≤◌, ⊤, List, [], ◌∷◌, ◌++◌, length, map, reverse, replicate, flat_map, All, slice_get, Option, Some, None, option_to_list}
+use Rattle.std.specs.Prelude.{◌≡◌, ℕ, ◌*◌, ◌%◌, ◌^◌, ◌<◌, ◌≤◌, ⊤, List, [], ◌∷◌, ◌++◌, length, map, reverse, replicate, flat_map, All, slice_get, Option, Some, None, option_map, option_to_list}
 use Rattle.linear_memory.specs.Contents.{Contents, page_size}
 use Rattle.host_port.specs.Standing.{State, Ready, Asking, Finished, Trapped, Exhausted}
 use Rattle.wasm_form.specs.declared.value_type.ValType.{ValType}
@@ -14,7 +14,13 @@ use Rattle.wasm_form.specs.Ranges.{IsOctet}
 use Rattle.wasm_form.specs.declared.instr.Imm.{Imm}
 use Rattle.wasm_form.specs.declared.instr.Imm.TheVariants as imm
 use Rattle.wasm_form.specs.Context.{Context, functions_of, memories_of, globals_of, context_of}
-use Rattle.wasm_form.specs.Typing.{Types}
+use Rattle.wasm_form.specs.Typing.{arrow, value_type, Types}
+use Rattle.wasm_form.specs.Profile.{Host as Offer}
+use Rattle.host_port.specs.Forms.{HasForm}
+use Rattle.host_port.specs.HostTable.{Row, row_of_import}
+use Rattle.host_port.specs.declared.call.Call.{Call}
+use Rattle.host_port.specs.declared.start.Start.{Start}
+use Rattle.host_port.specs.TypedValue.{TypedValue}
 use Rattle.tree_machine.specs.Functions.{Function, Callee, Host, type_of, own_function, callee_of}
 use Rattle.tree_machine.specs.Config.{Label, Leave, Again, Cont, Frame, Invocation, Config}
 use Rattle.tree_machine.specs.Point.{Point}
@@ -179,3 +185,20 @@ IsKept m (Calls ask results waits) =
 IsKept m (Traps trap) = ⊤
 IsKept m (Exceeds spent) = ⊤
 IsKept m Stuck = ⊥
+
+-- the type of the host call in a row of the host table, as a module writes it
+abbrev pub offered_type : Row → FuncType
+offered_type row = arrow (map value_type row.params) (option_to_list (option_map value_type row.result))
+
+-- this is what the host offers by its table
+abbrev pub Offers : Offer → Type 0
+Offers host = (import_module name : List ℕ) → host import_module name ≡ option_map offered_type (row_of_import import_module name)
+
+-- each reply has the form of its call
+abbrev pub HasForms : List Call → Type 0
+HasForms calls = All (λ (call : Call). HasForm call.request.ask call.reply) calls
+
+-- a process may have 1,024 pages at most, and the parameters are values of their types
+pub record IsTypedStart (start : Start) : Type 0 where
+  pub pages : start.limits.pages ≤ 1024
+  pub params : AreValues (map (λ (p : TypedValue). value_type p.num) start.params) (map (λ (p : TypedValue). p.value) start.params)

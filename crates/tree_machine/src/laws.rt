@@ -12,16 +12,19 @@ ghost use Rattle.wasm_form.specs.declared.expr.Expr.{Expr};
 ghost use Rattle.wasm_form.specs.declared.value_type.ValType.{ValType};
 ghost use Rattle.wasm_form.specs.declared.parts.Parts.{Parts};
 ghost use Rattle.wasm_form.specs.Trees.{Code, IsFlat};
+ghost use Rattle.wasm_form.specs.Modules.{IsSpelled};
+ghost use Rattle.wasm_form.specs.Profile.{Host};
+ghost use Rattle.wasm_form.specs.Verdict.{IsAccepted};
 ghost use Rattle.wasm_form.specs.Matching.{HasPlain};
 ghost use Rattle.tree_machine.specs.Trees.{tree_of};
 ghost use Rattle.tree_machine.specs.Config.{Config, bytes_of};
 ghost use Rattle.tree_machine.specs.Point.{Point, point};
 ghost use Rattle.tree_machine.specs.Step.{step};
 ghost use Rattle.tree_machine.specs.Replies.{replied};
-ghost use Rattle.tree_machine.specs.Begin.{begin};
+ghost use Rattle.tree_machine.specs.Begin.{begin, begun};
 ghost use Rattle.tree_machine.specs.Run.{point_at, at, may_ask};
 ghost use Rattle.tree_machine.specs.CallLaws.{WasReady};
-ghost use Rattle.tree_machine.specs.Typed.{AreValues, IsTyped, IsTypedAt, StandsTyped, IsTypedModule};
+ghost use Rattle.tree_machine.specs.Typed.{AreValues, IsTyped, IsTypedAt, StandsTyped, IsTypedModule, IsTypedStart, HasForms, Offers};
 
 /// The tree that is executed for an expression is the one whose flat list it is. It computes nothing.
 pub fn one_tree()
@@ -74,4 +77,23 @@ pub fn typed_runs_go_on()
     ensures replies { (m : Parts) (ask : Ask) (given : List ValType) (c : Config) (reply : Reply) →
         IsTypedModule m → IsTyped m given c → HasForm ask reply → AreValues given (option_to_list reply.result) →
         StandsTyped m (replied m c reply) }
+{}
+
+/// A run of an accepted module that bytes spell, over the host's table, is never stuck where the replies have the forms of
+/// their calls. It computes nothing.
+pub fn accepted_runs_are_never_stuck()
+    // Such a module is a typed one.
+    ensures typed { (host : Host) (m : Parts) → Offers host → IsAccepted host m → IsSpelled m → IsTypedModule m }
+    // Its run begins at a typed configuration.
+    ensures begins { (host : Host) (m : Parts) (start : Start) → Offers host → IsAccepted host m → IsSpelled m →
+        IsTypedStart start → begin m start ≡ None → IsTypedAt m (begun m start).state (begun m start).config }
+    // Wherever it stands it is typed.
+    ensures stands { (host : Host) (m : Parts) (start : Start) (calls : List Call) (n : ℕ) (p : Point) →
+        Offers host → IsAccepted host m → IsSpelled m → IsTypedStart start → HasForms calls →
+        point_at m start calls n ≡ Some p → IsTypedAt m p.state p.config }
+    // Where it is ready and has fuel left it goes on.
+    ensures goes_on { (host : Host) (m : Parts) (start : Start) (calls : List Call) (n : ℕ) (c : Config) →
+        Offers host → IsAccepted host m → IsSpelled m → IsTypedStart start → HasForms calls →
+        point_at m start calls n ≡ Some (point Ready c) → n < start.limits.fuel →
+        IsSome (point_at m start calls (n + 1)) }
 {}

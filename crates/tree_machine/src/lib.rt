@@ -7,4 +7,7 @@
 
 mod laws;
 
-pub use laws::{one_tree, runs_began_so, runs_go_on, runs_keep_to_their_start, typed_runs_go_on};
+pub use laws::{
+    accepted_runs_are_never_stuck, one_tree, runs_began_so, runs_go_on, runs_keep_to_their_start,
+    typed_runs_go_on,
+};
