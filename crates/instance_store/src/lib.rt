@@ -10,6 +10,7 @@ mod entry;
 mod globals;
 mod instantiation;
 mod invocation;
+mod laws;
 mod memory;
 mod params;
 mod refusal;
@@ -20,6 +21,7 @@ mod table;
 
 pub use instantiation::instantiate;
 pub use invocation::Invocation;
+pub use laws::accepted_over_the_host_table;
 pub use store::Store;
 
 #[cfg(test)]
