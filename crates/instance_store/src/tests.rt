@@ -4,8 +4,8 @@ use crate::{Store, instantiate};
 use host_port::{Bytes, Limits, Param, Params, Start, StartRefusal};
 use memory_refusal::NoMemory;
 use module_reader::read_module;
-use module_validator::{Valid, accept};
-use std::alloc::Global;
+use module_validator::accept;
+use std::alloc::{AllocError, Global};
 use std::test::Fail;
 use wasm_ops::Num;
 
@@ -46,20 +46,15 @@ const IMPORTING: &[u8] = b"\0asm\x01\0\0\0\x01\x09\x02\x60\0\0\x60\x02\x7E\x7E\0
 \x02\x20\x01\x10lunatic::message\x0Bcreate_data\0\x01\x03\x02\x01\0\x05\x04\x01\x01\x01\x03\
 \x07\x10\x03\x02go\0\0\x02on\0\x01\x02at\x02\0\x0A\x04\x01\x02\0\x0B";
 
-/// The module that these bytes spell, which is accepted.
-fn module(alloc: Global, bytes: &[u8]) -> Option<Valid> {
-    accept(alloc, read_module(alloc, bytes).ok()?).ok()
-}
-
 /// The module with the front, these sections and the bodies, and these sections behind.
-fn with_sections(alloc: Global, sections: &[&[u8]], behind: &[u8]) -> Result<Valid, Fail> {
+fn with_sections(alloc: Global, sections: &[&[u8]], behind: &[u8]) -> Result<Vec<u8>, AllocError> {
     let mut bytes = Vec::from_slice(alloc, FRONT)?;
     for section in sections {
         bytes.extend_from_slice(section)?;
     }
     bytes.extend_from_slice(BODIES)?;
     bytes.extend_from_slice(behind)?;
-    Ok(module(alloc, bytes.as_slice()).ok_or("not accepted")?)
+    Ok(bytes)
 }
 
 /// A start at this entry with these parameters, where the process may have so many pages.
@@ -75,10 +70,16 @@ fn start(alloc: Global, entry: &[u8], params: &[Param], pages: u32) -> Result<St
     })
 }
 
+/// What the module that these bytes spell makes of this start; None where it isn't accepted.
+fn started(alloc: Global, bytes: &[u8], start: &Start) -> Option<Result<Store, StartRefusal>> {
+    let valid = accept(alloc, read_module(alloc, bytes).ok()?).ok()?;
+    Some(instantiate(alloc, &valid, start))
+}
+
 /// The instance at this entry with these parameters, with so many pages at most.
 fn made(
     alloc: Global,
-    valid: &Valid,
+    bytes: &[u8],
     entry: &[u8],
     params: &[Param],
     pages: u32,
@@ -86,13 +87,14 @@ fn made(
     requires { pages ≤ 1024 }
 {
     let start = start(alloc, entry, params, pages)?;
-    Ok(instantiate(alloc, valid, &start).ok().ok_or("refused")?)
+    let answer = started(alloc, bytes, &start).ok_or("not accepted")?;
+    Ok(answer.ok().ok_or("refused")?)
 }
 
 /// Why there is none.
 fn refused(
     alloc: Global,
-    valid: &Valid,
+    bytes: &[u8],
     entry: &[u8],
     params: &[Param],
     pages: u32,
@@ -100,7 +102,8 @@ fn refused(
     requires { pages ≤ 1024 }
 {
     let start = start(alloc, entry, params, pages)?;
-    Ok(instantiate(alloc, valid, &start).err())
+    let answer = started(alloc, bytes, &start).ok_or("not accepted")?;
+    Ok(answer.err())
 }
 
 /// The two parameters that `go` takes.
@@ -108,50 +111,46 @@ fn two_params() -> [Param; 2] {
     [Param::new(Num::I32, 7), Param::new(Num::I64, 1 << 40)]
 }
 
-/// What segments make of the start of a module with a table of 5 elements and a memory of a page.
-fn judged(alloc: Global, elements: &[u8], segments: &[u8]) -> Result<Option<StartRefusal>, Fail> {
-    let valid = with_sections(alloc, &[TABLE, MEMORY, EXPORTS, elements], segments)?;
-    refused(alloc, &valid, b"on", &[], 64)
-}
-
-/// How many pages a memory can have in a process that may have so many.
-fn most_pages(alloc: Global, memory: &[u8], pages: u32) -> Result<u32, Fail>
-    requires { pages ≤ 1024 }
-{
-    let valid = with_sections(alloc, &[memory, EXPORTS], b"")?;
-    let (_, _, memory, _) = made(alloc, &valid, b"on", &[], pages)?.into_parts();
-    let mut memory = memory.ok_or("no memory")?;
+/// How many pages the memory can have.
+fn most_pages(store: Store) -> Option<u32> {
+    let (_, _, memory, _) = store.into_parts();
+    let mut memory = memory?;
     for _ in 0..1024 {
         if memory.grow(1).is_none() {
             break;
         }
     }
-    Ok(memory.pages())
+    Some(memory.pages())
 }
 
 #[test]
 fn makes_globals_and_table(rt: HostRuntime) -> Result<(), Fail> {
     let alloc = rt.alloc();
-    let valid = with_sections(alloc, &[TABLE, GLOBALS, EXPORTS, ELEMENTS], b"")?;
-    let store = made(alloc, &valid, b"on", &[], 64)?;
-    assert!(rt; store.globals() == [0xFFFF_FFFF, 0xFFFF_FFFF_FFFF_FFFE].as_slice());
-    assert!(rt; store.table() == [None, Some(2), Some(1), Some(1), None].as_slice());
-    assert!(rt; store.memory().is_none());
+    let bytes = with_sections(alloc, &[TABLE, GLOBALS, EXPORTS, ELEMENTS], b"")?;
+    let store = made(alloc, bytes.as_slice(), b"on", &[], 64)?;
+    let globals = store.globals() == [0xFFFF_FFFF, 0xFFFF_FFFF_FFFF_FFFE].as_slice();
+    let table = store.table() == [None, Some(2), Some(1), Some(1), None].as_slice();
+    assert_eq!(rt;
+        (globals, table, store.memory().is_none()),
+        (true, true, true)
+    );
     Ok(())
 }
 
 #[test]
 fn the_start_function_comes_before_the_entry(rt: HostRuntime) -> Result<(), Fail> {
     let alloc = rt.alloc();
-    let valid = with_sections(alloc, &[EXPORTS, BEGIN], b"")?;
-    let store = made(alloc, &valid, b"go", &two_params(), 0)?;
-    let [first, second] = store.invocations() else {
-        return Err("two invocations".into());
+    let bytes = with_sections(alloc, &[EXPORTS, BEGIN], b"")?;
+    let store = made(alloc, bytes.as_slice(), b"go", &two_params(), 0)?;
+    let in_order = match store.invocations() {
+        [first, second] => {
+            (first.function(), first.arguments().is_empty()) == (2, true)
+                && second.function() == 1
+                && second.arguments() == [7, 1 << 40].as_slice()
+        }
+        _ => false,
     };
-    assert_eq!(rt; first.function(), 2);
-    assert!(rt; first.arguments().is_empty());
-    assert_eq!(rt; second.function(), 1);
-    assert!(rt; second.arguments() == [7, 1 << 40].as_slice());
+    assert!(rt; in_order);
     Ok(())
 }
 
@@ -159,11 +158,15 @@ fn the_start_function_comes_before_the_entry(rt: HostRuntime) -> Result<(), Fail
 #[test]
 fn data_is_written_in_order(rt: HostRuntime) -> Result<(), Fail> {
     let alloc = rt.alloc();
-    let valid = with_sections(alloc, &[MEMORY, EXPORTS], DATA)?;
-    let store = made(alloc, &valid, b"on", &[], 64)?;
-    let memory = store.memory().ok_or("no memory")?;
-    assert_eq!(rt; memory.pages(), 1);
-    assert!(rt; memory.slice(7, 7) == Some(b"\0noXYZ\0".as_slice()));
+    let bytes = with_sections(alloc, &[MEMORY, EXPORTS], DATA)?;
+    let store = made(alloc, bytes.as_slice(), b"on", &[], 64)?;
+    let written = match store.memory() {
+        Some(memory) => {
+            memory.pages() == 1 && memory.slice(7, 7) == Some(b"\0noXYZ\0".as_slice())
+        }
+        None => false,
+    };
+    assert!(rt; written);
     Ok(())
 }
 
@@ -171,9 +174,11 @@ fn data_is_written_in_order(rt: HostRuntime) -> Result<(), Fail> {
 #[test]
 fn a_memory_grows_to_its_limit(rt: HostRuntime) -> Result<(), Fail> {
     let alloc = rt.alloc();
-    assert_eq!(rt; most_pages(alloc, MEMORY, 2)?, 2);
-    assert_eq!(rt; most_pages(alloc, MEMORY, 64)?, 3);
-    assert_eq!(rt; most_pages(alloc, UNBOUNDED, 64)?, 64);
+    for (memory, pages, most) in [(MEMORY, 2, 2), (MEMORY, 64, 3), (UNBOUNDED, 64, 64)] {
+        let bytes = with_sections(alloc, &[memory, EXPORTS], b"")?;
+        let store = made(alloc, bytes.as_slice(), b"on", &[], pages)?;
+        assert_eq!(rt; most_pages(store), Some(most));
+    }
     Ok(())
 }
 
@@ -181,6 +186,7 @@ fn a_memory_grows_to_its_limit(rt: HostRuntime) -> Result<(), Fail> {
 // unsigned.
 #[test]
 fn a_segment_lies_inside(rt: HostRuntime) -> Result<(), Fail> {
+    let alloc = rt.alloc();
     let out = Some(StartRefusal::SegmentOut);
     let cases: [(&str, &[u8], &[u8], Option<StartRefusal>); 7] = [
         ("two at 3", b"\x09\x08\x01\0\x41\x03\x0B\x02\0\0", b"", None),
@@ -202,7 +208,12 @@ fn a_segment_lies_inside(rt: HostRuntime) -> Result<(), Fail> {
         ("a byte at the end", b"", BYTE_OUT, out),
     ];
     for (what, elements, segments, want) in cases {
-        assert_eq!(rt; judged(rt.alloc(), elements, segments)?, want, "{what}");
+        let bytes = with_sections(alloc, &[TABLE, MEMORY, EXPORTS, elements], segments)?;
+        assert_eq!(rt;
+            refused(alloc, bytes.as_slice(), b"on", &[], 64)?,
+            want,
+            "{what}"
+        );
     }
     Ok(())
 }
@@ -211,34 +222,24 @@ fn a_segment_lies_inside(rt: HostRuntime) -> Result<(), Fail> {
 #[test]
 fn the_first_refusal_is_told(rt: HostRuntime) -> Result<(), Fail> {
     let alloc = rt.alloc();
-    let valid = with_sections(alloc, &[MEMORY, EXPORTS], BYTE_OUT)?;
+    let bytes = with_sections(alloc, &[MEMORY, EXPORTS], BYTE_OUT)?;
     let two = two_params();
     let other = [Param::new(Num::I64, 7), Param::new(Num::I64, 1 << 40)];
     let one = [Param::new(Num::I32, 7)];
-    assert_eq!(rt;
-        refused(alloc, &valid, b"gone", &[], 0)?,
-        Some(StartRefusal::NoExport)
-    );
-    assert_eq!(rt;
-        refused(alloc, &valid, b"go", &one, 0)?,
-        Some(StartRefusal::BadParams)
-    );
-    assert_eq!(rt;
-        refused(alloc, &valid, b"go", &other, 0)?,
-        Some(StartRefusal::BadParams)
-    );
-    assert_eq!(rt;
-        refused(alloc, &valid, b"on", &two, 0)?,
-        Some(StartRefusal::BadParams)
-    );
-    assert_eq!(rt;
-        refused(alloc, &valid, b"go", &two, 0)?,
-        Some(StartRefusal::PagesOver)
-    );
-    assert_eq!(rt;
-        refused(alloc, &valid, b"go", &two, 1)?,
-        Some(StartRefusal::SegmentOut)
-    );
+    let cases: [(&[u8], &[Param], u32, StartRefusal); 6] = [
+        (b"gone", &[], 0, StartRefusal::NoExport),
+        (b"go", &one, 0, StartRefusal::BadParams),
+        (b"go", &other, 0, StartRefusal::BadParams),
+        (b"on", &two, 0, StartRefusal::BadParams),
+        (b"go", &two, 0, StartRefusal::PagesOver),
+        (b"go", &two, 1, StartRefusal::SegmentOut),
+    ];
+    for (entry, params, pages, want) in cases {
+        assert_eq!(rt;
+            refused(alloc, bytes.as_slice(), entry, params, pages)?,
+            Some(want)
+        );
+    }
     Ok(())
 }
 
@@ -246,17 +247,12 @@ fn the_first_refusal_is_told(rt: HostRuntime) -> Result<(), Fail> {
 #[test]
 fn an_entry_is_a_function_of_the_module(rt: HostRuntime) -> Result<(), Fail> {
     let alloc = rt.alloc();
-    let valid = module(alloc, IMPORTING).ok_or("not accepted")?;
     let params = [Param::new(Num::I64, 1), Param::new(Num::I64, 2)];
-    assert_eq!(rt;
-        refused(alloc, &valid, b"go", &params, 64)?,
-        Some(StartRefusal::NoExport)
-    );
-    assert_eq!(rt;
-        refused(alloc, &valid, b"at", &[], 64)?,
-        Some(StartRefusal::NoExport)
-    );
-    let store = made(alloc, &valid, b"on", &[], 64)?;
-    assert_eq!(rt; store.invocations()[0].function(), 1);
+    let none = Some(StartRefusal::NoExport);
+    assert_eq!(rt; refused(alloc, IMPORTING, b"go", &params, 64)?, none);
+    assert_eq!(rt; refused(alloc, IMPORTING, b"at", &[], 64)?, none);
+    let store = made(alloc, IMPORTING, b"on", &[], 64)?;
+    let function = store.invocations().first().map(|it| it.function());
+    assert_eq!(rt; function, Some(1));
     Ok(())
 }
