@@ -4,7 +4,7 @@
 # where nothing else is said), how many times as fast as wasm-interp it is, and at last the geometric means. All must
 # give the result that the C program names, and the program must count the same instructions.
 #     [RUNS=n] [CPU=n] bench/engine.sh [NAME..]     the processor is the last one where none is named
-set -e
+set -eo pipefail
 cd "$(dirname "$0")/.."
 work=$(mktemp -d)
 trap 'rm -rf "$work"' EXIT
@@ -14,12 +14,20 @@ program=crates/tickmonel/out/tickmonel
 command -v wasm-interp >"$work/where" || { echo 'wasm-interp is missing (package wabt)' >&2; exit 1; }
 rustc --edition 2024 -O -C target-cpu=x86-64-v2 -o "$work/plain" bench/engine.rs
 
-# The least processor time of the command, in seconds; what it wrote last is left in the file out.
-best() {
-    local run TIMEFORMAT=%3U
-    for ((run = 0; run < runs; run++)); do
-        { time taskset -c "$cpu" "$@" >"$work/out" 2>"$work/err"; } 2>&1
-    done | sort -n | head -1
+# Runs a command and keeps what it writes, and its processor time in seconds beside those before.
+timed() {
+    local key=$1 TIMEFORMAT=%3U
+    shift
+    { time taskset -c "$cpu" "$@" >"$work/$key.out" 2>"$work/$key.err" || true; } 2>>"$work/$key.times"
+}
+
+least() {
+    sort -n "$work/$1.times" | head -1
+}
+
+wrong() {
+    echo "$1: $2 gave: $(cat "$work/$2.out")" >&2
+    exit 1
 }
 
 skip=
@@ -33,19 +41,26 @@ fi
 for name; do
     module=bench/engine/$name.wasm
     expected=$(sed -n 's/^ENTRY(\([0-9]*\)u)$/\1/p' "bench/engine/$name.c")
-    interp=$(best wasm-interp --run-all-exports "$module")
-    [ "$(cat "$work/out")" = "_start() => i32:$expected" ] || { echo "$name: wasm-interp: $(cat "$work/out")" >&2; exit 1; }
-    plain=$(best "$work/plain" "$module")
-    read -r given executed <"$work/out"
-    [ "$given" = "$expected" ] || { echo "$name: plain Rust: $(cat "$work/out")" >&2; exit 1; }
+    rm -f "$work"/*.times
     ours=-
+    for ((run = 0; run < runs; run++)); do
+        timed interp wasm-interp --run-all-exports "$module"
+        timed plain "$work/plain" "$module"
+        [ -n "$skip" ] || timed tickmonel "$program" run "$module"
+    done
+    read -r given executed <"$work/plain.out"
+    [ "$(cat "$work/interp.out")" = "_start() => i32:$expected" ] || wrong "$name" interp
+    [ "$given" = "$expected" ] || wrong "$name" plain
     if [ -z "$skip" ]; then
-        ours=$(best "$program" run "$module")
-        grep -q "^process 1 done fuel $executed " "$work/out" || { echo "$name: the program: $(cat "$work/out")" >&2; exit 1; }
+        grep -q "^process 1 done fuel $executed " "$work/tickmonel.out" || wrong "$name" tickmonel
+        ours=$(least tickmonel)
     fi
-    echo "$name $executed $interp $plain $ours"
+    echo "$name $executed $(least interp) $(least plain) $ours"
 done | awk -v skip="$skip" '
-    BEGIN { printf "%-10s %13s %12s %10s %6s %10s %6s\n", "program", "instructions", "wasm-interp", "plain", "times", "tickmonel", "times" }
+    BEGIN {
+        printf "%-10s %13s %12s %10s %6s %10s %6s\n", "program", "instructions", "wasm-interp", "plain", "times",
+            "tickmonel", "times"
+    }
     {
         printf "%-10s %13d %10.2f s %8.2f s %6.2f", $1, $2, $3, $4, $3 / $4
         plain += log($3 / $4); count++
