@@ -66,7 +66,6 @@ done | awk -v skip="$skip" '
         plain += log($3 / $4); count++
         if ($5 != "-") { printf " %8.2f s %6.2f", $5, $3 / $5; ours += log($3 / $5) }
         printf "\n"
-        fflush()
     }
     END {
         if (count > 0) {
