@@ -1,3 +1,4 @@
+pub mod RowLaws
+pub mod Requests
 pub mod HostLaws
-pub mod StepLaws
-pub mod TurnLaws
+pub mod FormLaws

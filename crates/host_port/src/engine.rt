@@ -17,9 +17,9 @@ use std::sync::Arc;
 /// What executes one process.
 ///
 /// An engine has one program and one start, which no call changes. What it does is said by where
-/// its run stands: `at` of the program, the start, the calls that were answered and the number of
-/// instructions that were executed. `stands` ties the engine to such a run. The clauses hold for
-/// each run that the engine stands for, and its user keeps one in mind.
+/// its run stands: `at` of the program, the start, the calls that were answered and the fuel that
+/// was burnt. `stands` ties the engine to such a run. The clauses hold for each run that the engine
+/// stands for, and its user keeps one in mind.
 pub trait Engine: Sized + Send + Drop {
     /// What is executed; one program serves many engines.
     type Program: Send + Sync + Drop;
@@ -27,17 +27,18 @@ pub trait Engine: Sized + Send + Drop {
     /// Why the program does not start so, or nothing.
     ghost begin: { Self.Program → Start → Option StartRefusal };
 
-    /// Where the run stands, started so, after these calls and this many instructions, or nothing
-    /// where there is no such run. Each engine says of its own run that all the calls are used:
-    /// the asks of the run so far are theirs, in this order and with the bytes that the memory had
-    /// then, but for one ask at the end that is still to be answered.
+    /// Where the run stands, started so, after these calls and with this much fuel burnt, or nothing
+    /// where there is no such run, as within the cost of an instruction. Each engine says of its
+    /// own run that all the calls are used: the asks of the run so far are theirs, in this order and
+    /// with the bytes that the memory had then, but for one ask at the end that is still to be
+    /// answered.
     ghost at: { Self.Program → Start → List Call → ℕ → Option Standing };
 
     /// The program may ask the call of this number.
     ghost may_ask: { Self.Program → ℕ → Type 0 };
 
-    /// The engine stands where the program does, started so, after these calls and this many
-    /// instructions.
+    /// The engine stands where the program does, started so, after these calls and with this much
+    /// fuel burnt.
     ghost stands: { Self → Self.Program → Start → List Call → ℕ → Type 0 };
 
     /// What the engine may be told next.
@@ -46,8 +47,8 @@ pub trait Engine: Sized + Send + Drop {
     /// The bytes of its memory; none where it has no memory.
     ghost memory: { Self → List ℕ };
 
-    /// An engine at the begin of the run. It is refused with what `begin` says, or for want of
-    /// memory.
+    /// An engine at the begin of the run. It is refused with what `begin` says, and for want of
+    /// memory only where `begin` refuses nothing.
     fn start(
         alloc: Global,
         program: &Arc<Self::Program>,
@@ -57,11 +58,13 @@ pub trait Engine: Sized + Send + Drop {
         ensures stands { IfOk result (λ engine. stands engine program.now.value start.now [] 0) }
         ensures running { IfOk result (λ engine. phase engine ≡ Running) }
         ensures refused { IfErr result (λ why.
-            why ≢ NoMemory → begin program.now.value start.now ≡ Some why) };
+            why ≢ NoMemory → begin program.now.value start.now ≡ Some why) }
+        ensures wants { IfErr result (λ why.
+            why ≡ NoMemory → begin program.now.value start.now ≡ None) };
 
-    /// Executes at most `budget` instructions, and tells why it stopped and how many were
-    /// executed. It may be called as long as it has answered no Done, Trap or Spent and no ask is
-    /// owed, also where `done` is true: then it answers that end, with 0.
+    /// Burns at most `budget` of fuel, an instruction at a time, and tells why it stopped and how
+    /// much was burnt. It may be called as long as it has answered no Done, Trap or Spent and no ask
+    /// is owed, also where `done` is true: then it answers that end, with 0.
     fn step(&mut self, budget: u64) -> (Stop, u64)
         requires some { 1 ≤ budget }
         requires running { phase self.old ≡ Running }
@@ -118,7 +121,7 @@ pub trait Engine: Sized + Send + Drop {
     ghost refused_has_no_run: { (program : Self.Program) (start : Start) (why : StartRefusal) (calls : List Call) (fuel : ℕ) →
         begin program start ≡ Some why → at program start calls fuel ≡ None };
 
-    /// A run has executed no more instructions than it may.
+    /// A run has burnt no more fuel than it may.
     ghost keeps_to_fuel: { (program : Self.Program) (start : Start) (calls : List Call) (fuel : ℕ) →
         IsSome (at program start calls fuel) → fuel ≤ start.limits.fuel };
 

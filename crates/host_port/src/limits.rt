@@ -27,7 +27,7 @@ impl Limits {
     /// The most pages that a process may be allowed.
     pub const MOST_PAGES: u32 = 1024;
 
-    /// At most `pages` pages of memory, `fuel` instructions in a life, and `traffic` bytes that
+    /// At most `pages` pages of memory, `fuel` burnt in a life, and `traffic` bytes that
     /// host calls move.
     pub fn new(pages: u32, fuel: u64, traffic: u64) -> Limits
         requires { pages ≤ Self.MOST_PAGES }
@@ -48,7 +48,7 @@ impl Limits {
         self.pages
     }
 
-    /// The most instructions in a life.
+    /// The most fuel that is burnt in a life.
     pub fn fuel(&self) -> u64
         ensures { result ≡ self.now.fuel }
     {

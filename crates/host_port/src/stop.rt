@@ -4,7 +4,7 @@ use wasm_ops::Trap;
 /// Which limit a process has reached.
 #[derive(Clone, Copy, Debug, PartialEq, Eq)]
 pub enum Spent {
-    /// An instruction was to be executed, and as many as are allowed have been.
+    /// An instruction was to be executed, and the fuel that it burns was not left.
     Fuel,
     /// A call would have made one frame too many.
     Frames,
@@ -17,7 +17,7 @@ pub enum Spent {
 /// Why an engine stopped.
 #[derive(Clone, Copy, Debug, PartialEq, Eq)]
 pub enum Stop {
-    /// The budget is used up, and another instruction is to come.
+    /// An instruction is to come, and the budget does not reach for it.
     Slice,
     /// The process called the host, and waits for the reply.
     Asks(Ask),

@@ -1,11 +1,12 @@
 use crate::{
     Ask, Bytes, Call, Calls, Limits, Param, Params, Reply, Request, Start, Text, host_row, import,
+    known_row,
 };
 use std::test::Fail;
 use wasm_ops::Num;
 
 #[test]
-fn knows_four_calls(rt: HostRuntime) -> Result<(), Fail> {
+fn knows_its_calls(rt: HostRuntime) -> Result<(), Fail> {
     for (call, module, name) in [
         (0, "lunatic::message", "create_data"),
         (8, "lunatic::message", "send"),
@@ -17,7 +18,8 @@ fn knows_four_calls(rt: HostRuntime) -> Result<(), Fail> {
         let same = import(module.as_bytes(), name.as_bytes()).ok_or("an import that is there")?;
         assert_eq!(rt; same.call, call);
     }
-    assert!(rt; host_row(1).is_none());
+    assert!(rt; known_row(35).is_some());
+    assert!(rt; host_row(36).is_none());
     assert!(rt; import(b"lunatic::process", b"send").is_none());
     Ok(())
 }

@@ -1,4 +1,4 @@
-use Rattle.std.proofs.Common.{◌≡◌, ℕ, ◌+◌, ◌-◌, ◌<◌, ◌≤◌, List, Option, Some, refl, sym, ◌∙◌, ap, subst, arith}
+use Rattle.std.proofs.Common.{◌≡◌, ℕ, ◌+◌, ◌-◌, ◌<◌, ◌≤◌, List, Option, Some, IsSome, refl, sym, ◌∙◌, ap, subst, arith}
 use Rattle.host_port.specs.declared.ask.Ask.{Ask}
 use Rattle.host_port.specs.declared.request.Request.{Request}
 use Rattle.host_port.specs.declared.reply.Reply.{Reply}
@@ -7,7 +7,7 @@ use Rattle.host_port.specs.declared.stop.Spent.TheVariants as limit
 use Rattle.host_port.specs.Areas.{request_of}
 use Rattle.host_port.specs.Standing.{Standing, State, Ready, Asking, state_of}
 use Rattle.host_port.specs.Steps.{IsStep, RunsOut}
-use Rattle.host_port.specs.Turn.{most_instructions, most_answers, Executes, Requests, EndsSo, Exceeds}
+use Rattle.turn_rules.specs.Turn.{turn_fuel, most_answers, Executes, Requests, EndsSo, Exceeds}
 
 -- a step executes its instructions
 pub IsStep-executes : (at : ℕ → Option Standing) (most fuel budget : ℕ) (reason : Stop) (used answered : ℕ) →
@@ -16,7 +16,7 @@ IsStep-executes at most fuel budget reason used answered step few = record {
   onward = omega arith;
   ready = λ k low high.
       let here : fuel + (k - fuel) ≡ k = omega arith in
-      subst (λ (m : ℕ). state_of (at m) ≡ Some Ready) here (step.ready (k - fuel) (omega arith));
+      subst (λ (m : ℕ). IsSome (at m) → state_of (at m) ≡ Some Ready) here (step.ready (k - fuel) (omega arith));
   bounded = λ less. few;
 }
 
@@ -35,8 +35,8 @@ asking-requests standing state memory ask there asking =
 
 -- a limit that a step met in the rest of the turn's budget ends the turn
 pub spent-ends : {Part : Type 0} (local : Part → Request → Option (Reply × Part)) (spent : _) (standing : Option Standing) (part : Part)
-    (fuel most before used answers : ℕ) → before ≤ most_instructions → answers < most_answers →
-    RunsOut spent (state_of standing) fuel most used (most_instructions - before) →
+    (fuel most before used answers : ℕ) → before ≤ turn_fuel → answers < most_answers →
+    RunsOut spent (state_of standing) fuel most used (turn_fuel - before) →
     EndsSo local (Exceeds spent) standing part fuel most (before + used) answers
 spent-ends local limit.Fuel standing part fuel most before used answers within few out = ((out.0, out.1, let o = out.2 in omega arith), λ _. few)
 spent-ends local limit.Frames standing part fuel most before used answers within few out = (out, λ _. few)

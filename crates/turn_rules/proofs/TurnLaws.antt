@@ -1,4 +1,4 @@
-use Rattle.std.proofs.Common.{◌≡◌, ℕ, ◌+◌, ◌<◌, ◌≤◌, ◌||◌, List, [], ◌∷◌, ◌++◌, length, Bool, true, false, cond, nat_eq, Option, Some, None, refl, sym, ◌∙◌, ap, arith, add-zero, zero-add, append_assoc, inl, inr}
+use Rattle.std.proofs.Common.{◌≡◌, ℕ, ◌+◌, ◌<◌, ◌≤◌, ◌||◌, List, [], ◌∷◌, ◌++◌, length, Bool, true, false, cond, nat_eq, nat_lt, Option, Some, None, IsSome, refl, sym, ◌∙◌, ap, arith, add-zero, zero-add, append_assoc, inl, inr}
 use Rattle.std.proofs.lemmas.Bool.{cases_lt}
 use Rattle.std.proofs.lemmas.Bool.Decides.{nat_tests}
 use Rattle.std.proofs.lemmas.List.{append-nil}
@@ -9,15 +9,16 @@ use Rattle.host_port.specs.declared.reply.Reply.{Reply}
 use Rattle.host_port.specs.declared.request.Request.{Request}
 use Rattle.host_port.specs.declared.stop.Spent.TheVariants as limit
 use Rattle.host_port.specs.Areas.{request_of}
+use Rattle.host_port.specs.Steps.{instruction_cost}
 use Rattle.host_port.specs.Standing.{Standing, State, Ready, Asking, Finished, Trapped, Exhausted, state_of, memory_of}
-use Rattle.host_port.specs.TurnLaws.{IsSameTurn}
-use Rattle.host_port.specs.Turn.{most_instructions, most_answers, Executes, Requests, GoesOn, IsUsedUp, EndsSo, Ending, Sliced, Meets, Returns, Traps, Exceeds, IsTurn}
+use Rattle.turn_rules.specs.TurnLaws.{IsSameTurn}
+use Rattle.turn_rules.specs.Turn.{turn_fuel, most_answers, Executes, Requests, GoesOn, IsUsedUp, EndsSo, Ending, Sliced, Meets, Returns, Traps, Exceeds, IsTurn}
 
 -- no instruction is executed from m to m
 pub executes_none : (at : ℕ → Option Standing) (answered m : ℕ) → Executes at answered m m
 executes_none at answered m = record {
   onward = omega arith;
-  ready = λ k low high. absurd (omega arith);
+  ready = λ k low high there. absurd (omega arith);
   bounded = λ less. absurd (omega arith);
 }
 
@@ -29,7 +30,7 @@ executes_on at answered n m p first then =
     let b : m ≤ p = then.onward in
     record {
       onward = omega arith;
-      ready = λ k low high. elim (cases_lt k m) as (λ _. state_of (at k) ≡ Some Ready) [ inl less ↦ first.ready k low less | inr more ↦ then.ready k more high ];
+      ready = λ k low high there. elim (cases_lt k m) as (λ _. state_of (at k) ≡ Some Ready) [ inl less ↦ first.ready k low less there | inr more ↦ then.ready k more high there ];
       bounded = λ less. elim (cases_lt n m) as (λ _. answered < most_answers) [ inl l ↦ first.bounded l | inr more ↦ then.bounded (omega arith) ];
     }
 
@@ -37,6 +38,11 @@ executes_on at answered n m p first then =
 asking_not_ready : (standing : Option Standing) (request : Request) → Requests standing request →
     state_of standing ≡ Some Ready → ⊥
 asking_not_ready standing request asks ready = let a = asks.asking in cc
+
+-- where a run asks, it stands
+asking_stands : (standing : Option Standing) (request : Request) → Requests standing request → IsSome standing
+asking_stands None request asks = let a = asks.asking in cc
+asking_stands (Some standing) request asks = refl
 
 -- what a run asks is one request
 requests_same : (standing : Option Standing) (r s : Request) → Requests standing r → Requests standing s → r ≡ s
@@ -52,17 +58,17 @@ or_true true = refl
 or_true false = refl
 
 is_used_up : (used answers : ℕ) → Bool
-is_used_up used answers = nat_eq used most_instructions || nat_eq answers most_answers
+is_used_up used answers = nat_lt turn_fuel (used + instruction_cost) || nat_eq answers most_answers
 
 used_up : (used answers : ℕ) → IsUsedUp used answers → is_used_up used answers ≡ true
 unfolding is_used_up
-used_up used answers (inl last) = let t : nat_eq used 10000 ≡ true = grind (arith, nat_tests) in rw t refl
-used_up used answers (inr last) = let t : nat_eq answers 64 ≡ true = grind (arith, nat_tests) in rw t (or_true (nat_eq used 10000))
+used_up used answers (inl last) = let t : nat_lt 10000 (used + 1) ≡ true = grind (arith, nat_tests) in rw t refl
+used_up used answers (inr last) = let t : nat_eq answers 64 ≡ true = grind (arith, nat_tests) in rw t (or_true (nat_lt 10000 (used + 1)))
 
-not_used_up : (used answers : ℕ) → used < most_instructions → answers < most_answers → is_used_up used answers ≡ false
+not_used_up : (used answers : ℕ) → used + instruction_cost ≤ turn_fuel → answers < most_answers → is_used_up used answers ≡ false
 unfolding is_used_up
 not_used_up used answers little few =
-    let a : nat_eq used 10000 ≡ false = grind (arith, nat_tests) in
+    let a : nat_lt 10000 (used + 1) ≡ false = grind (arith, nat_tests) in
     let b : nat_eq answers 64 ≡ false = grind (arith, nat_tests) in
     rw (a, b) refl
 
@@ -78,13 +84,13 @@ module _ {Part : Type 0} (local : Part → Request → Option (Reply × Part)) w
   -- where an instruction is to come, and is left of the turn and of the fuel, no turn ends
   no_end_at_ready : (ending : Ending) (standing : Option Standing) (part : Part) (m most used answers : ℕ) →
       EndsSo local ending standing part m most used answers → state_of standing ≡ Some Ready →
-      used < most_instructions → answers < most_answers → m < most → ⊥
+      used + instruction_cost ≤ turn_fuel → answers < most_answers → m + instruction_cost ≤ most → ⊥
   no_end_at_ready Sliced standing part m most used answers (r, inl u) ready little few fueled = omega arith
   no_end_at_ready Sliced standing part m most used answers (r, inr u) ready little few fueled = omega arith
   no_end_at_ready (Meets request) standing part m most used answers e ready little few fueled = asking_not_ready standing request e.0 ready
   no_end_at_ready Returns standing part m most used answers e ready little few fueled = cc
   no_end_at_ready (Traps trap) standing part m most used answers e ready little few fueled = cc
-  no_end_at_ready (Exceeds limit.Fuel) standing part m most used answers e ready little few fueled = let full : m ≡ most = e.0.1 in omega arith
+  no_end_at_ready (Exceeds limit.Fuel) standing part m most used answers e ready little few fueled = let full : most < m + instruction_cost = e.0.1 in omega arith
   no_end_at_ready (Exceeds limit.Frames) standing part m most used answers e ready little few fueled = let x = e.0 in cc
   no_end_at_ready (Exceeds limit.Values) standing part m most used answers e ready little few fueled = let x = e.0 in cc
   no_end_at_ready (Exceeds limit.Traffic) standing part m most used answers e ready little few fueled = e.0
@@ -117,6 +123,12 @@ module _ {Part : Type 0} (local : Part → Request → Option (Reply × Part)) w
   no_end_nowhere (Exceeds limit.Frames) part m most used answers e = let x = e.0 in cc
   no_end_nowhere (Exceeds limit.Values) part m most used answers e = let x = e.0 in cc
   no_end_nowhere (Exceeds limit.Traffic) part m most used answers e = e.0
+
+  -- where a turn ends, a run stands
+  stands_at_end : (ending : Ending) (standing : Option Standing) (part : Part) (m most used answers : ℕ) →
+      EndsSo local ending standing part m most used answers → IsSome standing
+  stands_at_end ending None part m most used answers e = absurd (no_end_nowhere ending part m most used answers e)
+  stands_at_end ending (Some standing) part m most used answers e = refl
 
   -- how a turn ends follows from where the run stands
   ending_is : (ending : Ending) (standing : Standing) (part : Part) (m most used answers : ℕ) →
@@ -153,15 +165,15 @@ module _ {Part : Type 0} (local : Part → Request → Option (Reply × Part)) w
   -- where a turn ends, no other execution with as many answers goes on
   ends_where_it_stops : (at : ℕ → Option Standing) (ending : Ending) (part : Part) (base most n m k answered : ℕ)
       (used : ℕ) →
-      Executes at answered n k → n ≤ m → m ≡ base + used → k ≤ base + most_instructions → k ≤ most →
+      Executes at answered n k → n ≤ m → m ≡ base + used → k ≤ base + turn_fuel → k ≤ most →
       EndsSo local ending (at m) part m most used answered → m < k → ⊥
   ends_where_it_stops at ending part base most n m k answered used goes from here bound fueled ends less =
-      no_end_at_ready ending (at m) part m most used answered ends (goes.ready m from less) (omega arith) (goes.bounded (omega arith)) (omega arith)
+      no_end_at_ready ending (at m) part m most used answered ends (goes.ready m from less (stands_at_end ending (at m) part m most used answered ends)) (omega arith) (goes.bounded (omega arith)) (omega arith)
 
   -- an execution does not go past a request
   no_way_past : (at : ℕ → Option Standing) (n m k answered : ℕ) (request : Request) → Executes at answered n k →
       n ≤ m → Requests (at m) request → m < k → ⊥
-  no_way_past at n m k answered request goes from asks less = asking_not_ready (at m) request asks (goes.ready m from less)
+  no_way_past at n m k answered request goes from asks less = asking_not_ready (at m) request asks (goes.ready m from less (asking_stands (at m) request asks))
 
   module _ (at : List Call → ℕ → Option Standing) where
     -- a turn goes forward
@@ -214,7 +226,7 @@ record Tail {Part : Type 0} (local : Part → Request → Option (Reply × Part)
   is_all : all ≡ calls ++ further
   is_count : answers ≡ answered + length further
   is_end : m ≡ base + used
-  little : used ≤ most_instructions
+  little : used ≤ turn_fuel
   fueled : m ≤ most
   ends : EndsSo local ending (at all m) after m most used answers
 
@@ -247,7 +259,7 @@ module _ {Part : Type 0} (local : Part → Request → Option (Reply × Part)) (
       (changed : Part) →
       Executes (at calls) answered n m → EndsSo local ending (at calls m) part m most used answered →
       m ≡ base + used → Executes (at calls) answered n k → Requests (at calls k) call.request →
-      local part call.request ≡ Some (call.reply, changed) → k ≤ base + most_instructions → k ≤ most → ⊥
+      local part call.request ≡ Some (call.reply, changed) → k ≤ base + turn_fuel → k ≤ most → ⊥
   none_further part calls answered n m k used ending call changed here ends is_end there asks given bound fueled =
       elim (cases_lt m k) as (λ _. ⊥) [
         | inl before ↦ ends_where_it_stops local (at calls) ending part base most n m k answered used there here.onward is_end bound fueled ends before
@@ -270,8 +282,8 @@ module _ {Part : Type 0} (local : Part → Request → Option (Reply × Part)) (
       let ends' = tail_here calls answered p part other again end tail' goes'.1 in
       let is_end : m ≡ base + used = tail.is_end in
       let is_end' : p ≡ base + again = tail'.is_end in
-      let little : used ≤ most_instructions = tail.little in
-      let little' : again ≤ most_instructions = tail'.little in
+      let little : used ≤ turn_fuel = tail.little in
+      let little' : again ≤ turn_fuel = tail'.little in
       elim (cases_lt m p) as (λ _. (◌≡◌ {A = List Call} [] []) × (m ≡ p) × (ending ≡ end)) [
         | inl less ↦ absurd (ends_where_it_stops local (at calls) ending part base most n m p answered used goes'.0 goes.0.onward is_end (omega arith) tail'.fueled ends less)
         | inr more ↦ elim (cases_lt p m) as (λ _. (◌≡◌ {A = List Call} [] []) × (m ≡ p) × (ending ≡ end)) [
@@ -286,14 +298,14 @@ module _ {Part : Type 0} (local : Part → Request → Option (Reply × Part)) (
       let ends = tail_here calls answered m part after used ending tail goes.1 in
       let forward : k ≤ p = goes_forward local at changed (calls ++ call ∷ []) (answered + 1) k two p other rest in
       let is_end' : p ≡ base + again = tail'.is_end in
-      let little' : again ≤ most_instructions = tail'.little in
+      let little' : again ≤ turn_fuel = tail'.little in
       let fueled' : p ≤ most = tail'.fueled in
       absurd (none_further part calls answered n m k used ending call changed goes.0 ends tail.is_end first asks given (omega arith) (omega arith))
   one_turn part calls answered n (call ∷ one) [] m p after other used again ending end (k, changed, first, asks, given, rest) goes' tail tail' =
       let ends' = tail_here calls answered p part other again end tail' goes'.1 in
       let forward : k ≤ m = goes_forward local at changed (calls ++ call ∷ []) (answered + 1) k one m after rest in
       let is_end : m ≡ base + used = tail.is_end in
-      let little : used ≤ most_instructions = tail.little in
+      let little : used ≤ turn_fuel = tail.little in
       let fueled : m ≤ most = tail.fueled in
       absurd (none_further part calls answered n p k again end call changed goes'.0 ends' tail'.is_end first asks given (omega arith) (omega arith))
   one_turn part calls answered n (call ∷ one) (call' ∷ two) m p after other used again ending end (k, changed, first, asks, given, rest) (k', changed', first', asks', given', rest') tail tail' =
