@@ -5,4 +5,7 @@ pub mod MemFiles
 pub mod MemSink
 pub mod Streams
 pub mod Makes
+pub mod Scripts
+pub mod MemStream
+pub mod MemListener
 pub mod MemOutside

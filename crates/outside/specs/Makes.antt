@@ -1,5 +1,6 @@
--- What the calls of an outside that make something gave and why, and its clock.
-use Rattle.std.specs.Prelude.{◌≡◌, ℕ, ◌≤◌, Option, Some, None, IsSomeAnd}
+-- What the calls of an outside that make something gave and why, its clock, and the numbers that were entered.
+use Rattle.std.specs.Prelude.{◌≡◌, ℕ, ◌≤◌, List, [], ◌∷◌, Option, Some, None, IsSomeAnd}
+use Rattle.std.specs.Io.KnownBytes.{append_known}
 use Rattle.outside.specs.declared.outside.AcceptStep.{AcceptStep}
 use Rattle.outside.specs.declared.outside.AcceptStep.TheVariants as accept
 use Rattle.outside.specs.declared.outside.MakeStep.{MakeStep}
@@ -19,15 +20,17 @@ IfAccepted accept.NotReady P = Unit {0}
 IfAccepted accept.Failed P = Unit {0}
 IfAccepted accept.NoMemory P = Unit {0}
 
--- the count of faults did not fall, and it rose where nothing was made for another cause than want of memory
+-- the count of faults did not fall, and it rose exactly where nothing was made for another cause than want of memory
 pub record MakeFault {T : Type 0} (before now : ℕ) (step : MakeStep T) : Type 0 where
   pub later : before ≤ now
   pub failed : step ≡ make.Failed → Rose before now
+  pub only : Rose before now → step ≡ make.Failed
 
--- the count of faults did not fall, and it rose where the accept failed
+-- the count of faults did not fall, and it rose exactly where the accept failed
 pub record AcceptFault {T : Type 0} (before now : ℕ) (step : AcceptStep T) : Type 0 where
   pub later : before ≤ now
   pub failed : step ≡ accept.Failed → Rose before now
+  pub only : Rose before now → step ≡ accept.Failed
 
 -- the count of waits did not fall, and it rose where nobody had connected
 pub record AcceptWait {T : Type 0} (before now : ℕ) (step : AcceptStep T) : Type 0 where
@@ -38,3 +41,7 @@ pub record AcceptWait {T : Type 0} (before now : ℕ) (step : AcceptStep T) : Ty
 abbrev pub GoesNotBack : (before now : Option ℕ) → Type 0
 GoesNotBack None now = now ≡ None
 GoesNotBack (Some time) now = IsSomeAnd now (λ later. time ≤ later)
+
+-- the numbers that were entered, where they are told, with one more at their end
+abbrev pub entered_also : ℕ → Option (List ℕ) → Option (List ℕ)
+entered_also pid entered = append_known entered (pid ∷ [])

@@ -1,9 +1,9 @@
 -- Files in memory: what each read of them does.
-use Rattle.std.specs.Prelude.{◌≡◌, ℕ, Bool, true, false, List, [], ◌∷◌, Some, None, if◌then◌else◌}
+use Rattle.std.specs.Prelude.{◌≡◌, ◌≢◌, ℕ, Bool, true, false, List, [], ◌∷◌, Some, None, MatchBool, if◌then◌else◌}
 use Rattle.std.specs.Str.{bytes_eq}
 use Rattle.outside.specs.declared.files.FileStep.{FileStep}
 use Rattle.outside.specs.declared.files.FileStep.TheVariants.{Done, TooLong, Missing, Failed, NoMemory}
-use Rattle.outside.specs.Causes.{counted, is_listed}
+use Rattle.outside.specs.Causes.{counted, is_full, is_listed}
 use Rattle.outside.specs.Files.{Contents, FitsFile}
 
 -- files by their names, the numbers of the reads that are to fail, the number of the next read, and the counts
@@ -31,17 +31,12 @@ lacks_file Done = false
 lacks_file Failed = false
 lacks_file NoMemory = false
 
--- the reading failed
-abbrev pub is_failure : FileStep → Bool
-is_failure Failed = true
-is_failure Done = false
-is_failure TooLong = false
-is_failure Missing = false
-is_failure NoMemory = false
-
--- a read fails exactly where its number is listed, else answers as the file of the name is, and raises the count of its cause alone
-pub record PlannedRead (old : MemStore) (name : List ℕ) (limit : ℕ) (into : List ℕ) (step : FileStep) (new : MemStore) : Type 0 where
-  pub failed : is_failure step ≡ is_listed old.fails old.calls
+-- a read fails exactly where its number is listed, or wants memory there where the count of faults stands at its end;
+-- else it answers as the file of the name is; and it raises the count of its cause alone
+pub record PlannedRead (old : MemStore) (name : List ℕ) (limit : ℕ) (into : List ℕ) (step : FileStep) (new : MemStore)
+    : Type 0 where
+  pub failed :
+      MatchBool (is_listed old.fails old.calls) (step ≡ (if is_full old.faults then NoMemory else Failed)) (step ≢ Failed)
   pub fits : FitsFile (contents_of old.files name) limit into step
   pub files : new.files ≡ old.files
   pub fails : new.fails ≡ old.fails

@@ -1,6 +1,6 @@
 -- A sink in memory: what each write to it does.
-use Rattle.std.specs.Prelude.{◌≡◌, ℕ, ◌+◌, ◌≤◌, ◌==◌, ◌||◌, min, Bool, List, [], ◌++◌, length, take, Result, is_err, IfOk, MatchResult, if◌then◌else◌}
-use Rattle.outside.specs.Causes.{counted, is_listed}
+use Rattle.std.specs.Prelude.{◌≡◌, ℕ, ◌+◌, ◌≤◌, ◌==◌, ◌||◌, ◌&&◌, not, min, Bool, List, [], ◌++◌, length, take, Result, is_err, IfOk, MatchResult, if◌then◌else◌}
+use Rattle.outside.specs.Causes.{counted, is_full, is_listed}
 
 -- what was written, how many bytes more there is room for, the most that one write takes,
 -- the numbers of the writes that are to fail and to take nothing, the number of the next write, and the count of faults
@@ -39,26 +39,32 @@ fails_next tape = is_listed tape.fails tape.calls || tape.room == 0
 abbrev pub takes_none_next : Tape → Bool
 takes_none_next tape = is_listed tape.zeros tape.calls
 
--- how many bytes of a piece the next write takes where it does not fail
+-- how many bytes of a piece the next write takes where it does not fail; nothing, where it is to fail and the count of
+-- faults stands at its end
 abbrev pub taken_next : Tape → List ℕ → ℕ
-taken_next tape piece = if takes_none_next tape then 0 else min (min (length piece) tape.longest) tape.room
+taken_next tape piece =
+    if fails_next tape || takes_none_next tape then 0 else min (min (length piece) tape.longest) tape.room
 
--- a write keeps what the tape was made with, and counts itself, and a fault where it failed or was to take nothing
-pub record NextCall (old new : Tape) : Type 0 where
+-- the next write of this piece counts a fault: it is to fail, or to take nothing of a piece that has bytes
+abbrev pub faults_next : Tape → List ℕ → Bool
+faults_next tape piece = fails_next tape || (takes_none_next tape && not (length piece == 0))
+
+-- a write keeps what the tape was made with, and counts itself, and its fault
+pub record NextCall (old : Tape) (piece : List ℕ) (new : Tape) : Type 0 where
   pub longest : new.longest ≡ old.longest
   pub fails : new.fails ≡ old.fails
   pub zeros : new.zeros ≡ old.zeros
   pub calls : new.calls ≡ counted old.calls
-  pub faults : new.faults ≡ (if fails_next old || takes_none_next old then counted old.faults else old.faults)
+  pub faults : new.faults ≡ (if faults_next old piece then counted old.faults else old.faults)
 
 -- a write took n bytes of the piece
 pub record Takes (old : Tape) (piece : List ℕ) (new : Tape) (n : ℕ) : Type 0 where
   pub written : new.written ≡ old.written ++ take n piece
   pub room : new.room + n ≡ old.room
 
--- a write fails exactly where it is to fail or finds no room, and else takes what it can
+-- a write fails exactly where it is to fail or finds no room, and its fault can be counted; else it takes what it can
 pub record PlannedWrite {E : Type 0} (old : Tape) (piece : List ℕ) (result : Result ℕ E) (new : Tape) : Type 0 where
-  pub failed : is_err result ≡ fails_next old
+  pub failed : is_err result ≡ (fails_next old && not (is_full old.faults))
   pub taken : IfOk result (λ n. n ≡ taken_next old piece)
   pub tape : MatchResult result (Takes old piece new) (λ _. Takes old piece new 0)
-  pub next : NextCall old new
+  pub next : NextCall old piece new

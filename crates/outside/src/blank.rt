@@ -2,7 +2,8 @@ ghost use Rattle.std.specs.Prelude.{◌≡◌};
 
 use crate::{AcceptStep, IoStep, Listener, MakeStep, Outside, Stream};
 
-/// A stream for where none is ever opened. Its calls fail, and it is down.
+/// A stream for where none is ever opened. Its calls move nothing, and it is down. Its count of empty answers stands at
+/// its end.
 #[derive(Debug, Drop)]
 pub struct BlankStream;
 
@@ -13,35 +14,39 @@ impl Stream for BlankStream {
 
     ghost put = { λ _. None };
 
-    ghost faults = { λ _. 2 ^ 64 - 1 };
+    ghost faults = { λ _. 0 };
 
     ghost waits = { λ _. 0 };
 
-    ghost empties = { λ _. 0 };
+    ghost empties = { λ _. 2 ^ 64 - 1 };
 
     ghost down = { λ _. true };
 
     fn read(&mut self, _buffer: &mut [u8]) -> IoStep
-        ensures { result ≡ IoStep.Failed }
+        ensures { result ≡ IoStep.Done 0 }
     {
-        IoStep::Failed
+        IoStep::Done(0)
     }
 
     fn write(&mut self, _piece: &[u8]) -> IoStep
-        ensures { result ≡ IoStep.Failed }
+        ensures { result ≡ IoStep.Done 0 }
     {
-        IoStep::Failed
+        IoStep::Done(0)
     }
 
     fn shut(&mut self) {}
 }
 
-/// A listener for where none is ever bound. Its port is 0.
+/// A listener for where none is ever bound. Its port is 0, and it is down.
 #[derive(Debug, Drop)]
 pub struct BlankListener;
 
 impl Listener for BlankListener {
+    ghost use Rattle.std.specs.Prelude.{true};
+
     ghost number = { λ _. 0 };
+
+    ghost down = { λ _. true };
 
     fn port(&self) -> u16 {
         0
@@ -50,8 +55,8 @@ impl Listener for BlankListener {
     fn shut(&mut self) {}
 }
 
-/// An outside that has nothing, for where nothing calls it. Its count of faults stands at its end,
-/// and it tells no clock.
+/// An outside that has nothing, for where nothing calls it. Its calls answer want of memory. Its count of rests stands at
+/// its end, and it tells no clock and no numbers that were entered.
 #[derive(Debug, Drop)]
 pub struct BlankOutside;
 
@@ -62,13 +67,15 @@ impl Outside for BlankOutside {
 
     ghost use Rattle.std.specs.Prelude.{None, ◌^◌, ◌-◌};
 
-    ghost faults = { λ _. 2 ^ 64 - 1 };
+    ghost faults = { λ _. 0 };
 
     ghost waits = { λ _. 0 };
 
     ghost rests = { λ _. 2 ^ 64 - 1 };
 
     ghost clock = { λ _. None };
+
+    ghost entered = { λ _. None };
 
     fn now(&mut self) -> u64
         ensures { result ≡ 0 }
@@ -77,21 +84,21 @@ impl Outside for BlankOutside {
     }
 
     fn bind(&mut self, _ip: u32, _port: u16) -> MakeStep<BlankListener>
-        ensures { result ≡ MakeStep.Failed }
+        ensures { result ≡ MakeStep.NoMemory }
     {
-        MakeStep::Failed
+        MakeStep::NoMemory
     }
 
     fn accept(&mut self, _listener: &mut BlankListener) -> AcceptStep<BlankStream>
-        ensures { result ≡ AcceptStep.Failed }
+        ensures { result ≡ AcceptStep.NoMemory }
     {
-        AcceptStep::Failed
+        AcceptStep::NoMemory
     }
 
     fn connect(&mut self, _ip: u32, _port: u16) -> MakeStep<BlankStream>
-        ensures { result ≡ MakeStep.Failed }
+        ensures { result ≡ MakeStep.NoMemory }
     {
-        MakeStep::Failed
+        MakeStep::NoMemory
     }
 
     fn enter(&mut self, _pid: u64) {}

@@ -29,8 +29,8 @@ pub trait Files {
 
     /// Reads the file of this name into a buffer that is empty, at most `limit` bytes of it.
     ///
-    /// `TooLong` and `Missing` come only where the lacks rose, `Failed` only where the faults rose. After an answer
-    /// other than `Done` the buffer holds nothing of use.
+    /// `TooLong` and `Missing` come only where the lacks rose, `Failed` only where the faults rose, and the counts rise
+    /// nowhere else. After an answer other than `Done` the buffer holds nothing of use.
     fn read(&mut self, name: &str, into: &mut Vec<u8>, limit: u64) -> FileStep
         requires empty { into.old.items ≡ [] }
         ensures within { result ≡ FileStep.Done → length into.new.items ≤ limit }

@@ -3,13 +3,14 @@ ghost use Rattle.outside.specs.Files.{FitsFile, FaultCause, LackCause};
 ghost use Rattle.std.specs.Option.{option_copied};
 ghost use Rattle.outside.specs.MemFiles.{PlannedRead, contents_of, lacks_file, new_store};
 
-use crate::{FileStep, Files};
+use crate::{FileStep, Files, raise};
 use std::marker::Model;
 
 /// Files in memory, which tell their contents. Reads of chosen numbers fail.
 ///
 /// Contracts see the files by their names, the numbers of the reads that are to fail, the number of the next read and
-/// the counts. With no read that is to fail, no read raises the count of faults.
+/// the counts. With no read that is to fail, no read raises the count of faults. A read that would raise a count that
+/// stands at its end answers `NoMemory`.
 #[derive(Drop)]
 pub struct MemFiles {
     files: Vec<(String, Vec<u8>)>,
@@ -72,14 +73,20 @@ impl Files for MemFiles {
         let call = self.calls;
         self.calls = call.saturating_add(1);
         if self.fails.contains(&call) {
-            self.faults = self.faults.saturating_add(1);
-            return FileStep::Failed;
+            if raise(&mut self.faults) {
+                return FileStep::Failed;
+            }
+            return FileStep::NoMemory;
         }
         let step = read_within(find(&self.files, name), into, limit);
-        if is_lack(step) {
-            self.lacks = self.lacks.saturating_add(1);
+        if !is_lack(step) {
+            return step;
         }
-        step
+        if raise(&mut self.lacks) {
+            step
+        } else {
+            FileStep::NoMemory
+        }
     }
 }
 

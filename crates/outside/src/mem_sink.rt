@@ -1,9 +1,8 @@
 ghost use Rattle.std.specs.Prelude.{◌≡◌, ◌≤◌, [], IfOk, OnErr, Some};
-ghost use Rattle.outside.specs.Causes.{HasCause};
-ghost use Rattle.outside.specs.Sinks.{TakesFirst, NoneHasCause};
+ghost use Rattle.outside.specs.Sinks.{TakesFirst, SinkFault};
 ghost use Rattle.outside.specs.MemSink.{PlannedWrite, new_tape};
 
-use crate::{Failed, Sink};
+use crate::{Failed, Sink, raise};
 use memory_refusal::NoMemory;
 use std::alloc::Global;
 use std::marker::Model;
@@ -12,7 +11,8 @@ use std::marker::Model;
 ///
 /// Contracts see what was written, the room that is left, the most that one write takes, the numbers of the writes
 /// that are to fail and to take nothing, the number of the next write and the count of faults. With no write that is
-/// to fail or to take nothing, and as long as the room lasts, no write raises the count.
+/// to fail or to take nothing, and as long as the room lasts, no write raises the count. Where the count stands at its
+/// end, a write that is to fail takes nothing.
 #[derive(Drop)]
 pub struct MemSink {
     log: Vec<u8>,
@@ -85,19 +85,22 @@ impl Sink for MemSink {
     fn write(&mut self, piece: &[u8]) -> Result<usize, Failed>
         ensures taken { IfOk result (TakesFirst piece.now (Some self.old.written) (Some self.new.written)) }
         ensures kept { OnErr result (Some self.new.written ≡ Some self.old.written) }
-        ensures cause { HasCause self.old.faults self.new.faults result }
-        ensures none_taken { IfOk result (NoneHasCause self.old.faults self.new.faults piece.now) }
+        ensures faults { SinkFault self.old.faults self.new.faults piece.now result }
         ensures planned { PlannedWrite self.old piece.now result self.new }
     {
         let call = self.calls;
         self.calls = call.saturating_add(1);
         let left = self.room - self.log.len();
         if self.fails.contains(&call) || left == 0 {
-            self.faults = self.faults.saturating_add(1);
-            return Err(Failed);
+            if raise(&mut self.faults) {
+                return Err(Failed);
+            }
+            return Ok(0);
         }
         if self.zeros.contains(&call) {
-            self.faults = self.faults.saturating_add(1);
+            if !piece.is_empty() {
+                raise(&mut self.faults);
+            }
             return Ok(0);
         }
         let count = piece.len().min(self.longest).min(left);

@@ -1,6 +1,5 @@
 ghost use Rattle.std.specs.Prelude.{◌≡◌, ℕ, List, Option, IfOk, OnErr};
-ghost use Rattle.outside.specs.Causes.{HasCause};
-ghost use Rattle.outside.specs.Sinks.{TakesFirst, NoneHasCause};
+ghost use Rattle.outside.specs.Sinks.{TakesFirst, SinkFault};
 
 /// The write failed and took nothing.
 #[derive(Clone, Copy, Debug, PartialEq, Eq)]
@@ -17,10 +16,9 @@ pub trait Sink {
     /// Takes the first bytes of the piece, and answers how many.
     ///
     /// `Failed` comes only where the faults rose, and then nothing was taken. A piece that has bytes is answered with
-    /// 0 only where the faults rose too.
+    /// 0 only where the faults rose or stand at 2^64 - 1. They rise nowhere else.
     fn write(&mut self, piece: &[u8]) -> Result<usize, Failed>
         ensures taken { IfOk result (TakesFirst piece.now (written self.old) (written self.new)) }
         ensures kept { OnErr result (written self.new ≡ written self.old) }
-        ensures cause { HasCause (faults self.old) (faults self.new) result }
-        ensures none_taken { IfOk result (NoneHasCause (faults self.old) (faults self.new) piece.now) };
+        ensures faults { SinkFault (faults self.old) (faults self.new) piece.now result };
 }

@@ -14,7 +14,8 @@ pub enum IoStep {
 
 /// A connection: bytes are read from it and written to it until it is shut.
 ///
-/// A stream need not be `Drop`, so code over any stream hands each one on.
+/// A stream need not be `Drop` or `Clone`, so code over any stream can neither drop nor copy one: it hands each one on by
+/// value, shut or not.
 pub trait Stream: Send {
     /// The bytes that were read so far, where the stream tells them: always or never.
     ghost taken: { Self → Option (List ℕ) };
@@ -37,9 +38,9 @@ pub trait Stream: Send {
 
     /// Reads bytes into the front of the buffer.
     ///
-    /// `NotReady` comes only where the waits rose, `Failed` only where the faults rose; then nothing
-    /// was read. A buffer with room is answered with `Done(0)`, the end of the stream, only where the
-    /// empties rose.
+    /// `NotReady` comes only where the waits rose, `Failed` exactly where the faults rose; then nothing was read. A
+    /// buffer with room is answered with `Done(0)`, the end of the stream, only where the empties rose or stand at
+    /// 2^64 - 1.
     fn read(&mut self, buffer: &mut [u8]) -> IoStep
         ensures taken { Moves result buffer.new (taken self.old) (taken self.new) }
         ensures put { put self.new ≡ put self.old }
@@ -50,8 +51,8 @@ pub trait Stream: Send {
 
     /// Writes the first bytes of the piece.
     ///
-    /// `NotReady` comes only where the waits rose, `Failed` only where the faults rose; then nothing
-    /// was written. A piece that has bytes is answered with `Done(0)` only where the empties rose.
+    /// `NotReady` comes only where the waits rose, `Failed` exactly where the faults rose; then nothing was written. A
+    /// piece that has bytes is answered with `Done(0)` only where the empties rose or stand at 2^64 - 1.
     fn write(&mut self, piece: &[u8]) -> IoStep
         ensures put { Moves result piece.now (put self.old) (put self.new) }
         ensures taken { taken self.new ≡ taken self.old }
@@ -65,7 +66,7 @@ pub trait Stream: Send {
         ensures down { down self.new ≡ true }
         ensures taken { taken self.new ≡ taken self.old }
         ensures put { put self.new ≡ put self.old }
-        ensures faults { faults self.old ≤ faults self.new }
+        ensures faults { faults self.new ≡ faults self.old }
         ensures waits { waits self.old ≤ waits self.new }
         ensures empties { empties self.old ≤ empties self.new };
 }
