@@ -14,7 +14,7 @@ const EXPORTED_NAME: &[u8] = b"_start";
 pub struct SmallInstance {
     /// The line of instructions, and how far it was executed.
     line: Instance,
-    /// How many instructions may still be executed.
+    /// How much fuel is left.
     fuel_left: u64,
     /// A step has answered the end of the life.
     over: bool,

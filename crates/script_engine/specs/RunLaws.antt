@@ -17,7 +17,7 @@ both_hold true true o h = refl
 both_hold true false o h = absurd (cc)
 both_hold false b o h = absurd (cc)
 
--- a run has executed no more instructions than it may
+-- a run has burnt no more fuel than it may
 pub keeps_to_fuel : (asks : List Ask) (end : Option Trap) (most : ℕ) (calls : List Call) (n : ℕ) →
     IsSome (script_at asks end most calls n) → n ≤ most
 keeps_to_fuel asks end most calls n h =

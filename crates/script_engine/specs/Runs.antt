@@ -49,11 +49,11 @@ state_left left end n = cond (nat_eq n 0) (Some (state_before left end)) (cond (
 abbrev pub bare : Option State → Option Standing
 bare state = option_map (λ (s : State). record { state = s; memory = [] }) state
 
--- there may be a run with these calls and instructions: the calls are the script's, and the fuel is not passed
+-- there may be a run with these calls and this fuel: the calls are the script's, and the most is not passed
 abbrev pub is_run : List Ask → (most : ℕ) → List Call → ℕ → Bool
 is_run asks most calls n = are_of_first asks calls && nat_le (length calls) n && nat_le n most
 
--- where a script stands after these calls and n instructions, each ask being one of them
+-- where a script stands after these calls and n of fuel, one for each instruction, an ask being one of them
 abbrev pub script_at : List Ask → Option Trap → (most : ℕ) → List Call → ℕ → Option Standing
 script_at asks end most calls n =
     cond (is_run asks most calls n) (bare (state_left (drop (length calls) asks) end (n - length calls))) None

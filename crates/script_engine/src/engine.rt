@@ -13,7 +13,7 @@ pub struct ScriptEngine {
     executed: bool,
     /// A step has answered the end of the life.
     over: bool,
-    /// How many instructions may still be executed.
+    /// How much fuel is left.
     fuel_left: u64,
 }
 

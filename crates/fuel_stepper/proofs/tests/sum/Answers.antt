@@ -1,4 +1,4 @@
-use Rattle.std.proofs.Common.{◌≡◌, ◌∙◌, ◌++◌, List, [], ◌∷◌, refl, sym, subst, inl, arith, rules}
+use Rattle.std.proofs.Common.{◌≡◌, List, [], ◌∷◌, refl, sym, subst, inl, arith, rules}
 use Rattle.std.specs.Prelude.{pos}
 use Rattle.wasm_form.specs.Form.{small_parts, code_of}
 use Rattle.wasm_form.specs.Modules.{IsSpelled}
