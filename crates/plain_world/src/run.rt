@@ -1,5 +1,7 @@
-ghost use Rattle.std.specs.Prelude.{◌≡◌, IfOk};
+ghost use Rattle.std.specs.Prelude.{◌≡◌, IfOk, OnErr, None};
+ghost use Rattle.journal.specs.Allowed.{Allowed};
 ghost use Rattle.journal.specs.Report.{report_text};
+ghost use Rattle.journal.specs.Runs.{told};
 ghost use Rattle.plain_world.specs.Kept.{BeginsSo, TakesAllowed};
 
 use host_port::Start;
@@ -44,9 +46,10 @@ impl PlainRun {
 
     /// The run with this entry besides; None exactly where the entry is not allowed. Where process
     /// 1 ends by it, its empty memory joins the ends. `NoMemory` comes for want of memory alone, and
-    /// then the run is let go.
+    /// only where the entry is allowed; then the run is let go.
     pub fn take(self, alloc: Global, entry: Entry) -> Result<Option<PlainRun>, NoMemory>
-        ensures { IfOk result (λ run. TakesAllowed self entry run) }
+        ensures taken { IfOk result (λ run. TakesAllowed self entry run) }
+        ensures wants { OnErr result (Allowed None (told self) entry) }
     {
         let PlainRun { journal, world } = self;
         if !world.allows(&entry) {

@@ -6,7 +6,7 @@ use Rattle.std.proofs.lemmas.List.Elements.{All-nil, All-push}
 use Rattle.wasm_ops.specs.declared.num.Num.{Num}
 use Rattle.wasm_ops.specs.declared.num.Num.TheVariants.{I32, I64}
 use Rattle.host_port.specs.TypedValue.{TypedValue}
-use Rattle.spawn_config.specs.Spelling.{IsValueOf, type_byte, value_bytes, param_bytes, spelling, Spells}
+use Rattle.spawn_config.specs.Spelling.{IsValueOf, type_byte, value_bytes, param_bytes, spelling, Spells, AreParams}
 
 -- every parameter has seventeen bytes
 length-bytes : (num : Num) (value : ℕ) → length (type_byte num ∷ value_bytes num value) ≡ 17
@@ -68,6 +68,16 @@ bad_piece bytes params left reads some none all is =
     let o = reads.rest all is in
     let r = rest_of left o.0 o.1 some in
     none r.0 (ap (take 17) r.2 ∙ take_at (param_bytes r.0) (spelling r.1) 17 (length-param_bytes r.0))
+
+-- where some parameters spell the text, what is left has room for the next, and begins with it
+pub long_enough : (bytes : List ℕ) (params : List TypedValue) (left : List ℕ) → Reads bytes params left
+    → AreParams bytes → 0 < length left → 17 ≤ length left
+long_enough bytes params left reads are some =
+    let o = reads.rest are.0 are.1.spelled in
+    let r = rest_of left o.0 o.1 some in
+    let n = ap length r.2 ∙ length-append (param_bytes r.0) (spelling r.1) in
+    let m = length-param_bytes r.0 in
+    omega (arith, n, m)
 
 pub reads_all : (bytes : List ℕ) (params : List TypedValue) (left : List ℕ) → Reads bytes params left → left ≡ []
     → Spells bytes params

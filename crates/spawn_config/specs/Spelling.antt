@@ -32,3 +32,7 @@ spelling params = flat_map param_bytes params
 pub record Spells (bytes : List ℕ) (params : List TypedValue) : Type 0 where
   pub spelled : bytes ≡ spelling params
   pub values : All (λ param. IsValueOf param.num param.value) params
+
+-- the bytes are parameters: some spell them, each a value of its type
+abbrev pub AreParams : List ℕ → Type 0
+AreParams bytes = (params : List TypedValue) × Spells bytes params

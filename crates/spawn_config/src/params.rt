@@ -1,6 +1,7 @@
 ghost use Rattle.std.specs.Prelude.{◌≡◌, ◌≢◌, ◌↔◌, ℕ, List, length, All, IsTrue, IfOk, MatchOption};
+ghost use Rattle.std.specs.Bool.{OnTrue, OnFalse};
 ghost use Rattle.host_port.specs.TypedValue.{TypedValue};
-ghost use Rattle.spawn_config.specs.Spelling.{Spells, IsValueOf, spelling, param_bytes};
+ghost use Rattle.spawn_config.specs.Spelling.{Spells, AreParams, IsValueOf, spelling, param_bytes};
 
 use host_port::{Param, Params};
 use memory_refusal::NoMemory;
@@ -37,25 +38,46 @@ const PARAM_LEN: usize = 17;
 ///
 /// `BadParams` comes exactly where they spell none: where the length is no multiple of 17, a type's
 /// byte is neither 7F nor 7E, or a byte past the value's four or eight is not zero. `NoMemory`
-/// comes for want of memory.
+/// comes for want of memory, and only where the bytes are parameters.
 pub fn decode_params(alloc: Global, bytes: &[u8]) -> Result<Params, ParamFault>
     ensures ok { IfOk result (Spells bytes.now) }
     ensures bad { result ≡ Err ParamFault.BadParams → (params : List TypedValue) → bytes.now ≢ spelling params }
+    ensures wants { result ≡ Err ParamFault.NoMemory → AreParams bytes.now }
 {
+    // all pieces are judged before memory is taken, so that want of it never hides a bad one
+    if !are_params(bytes) {
+        return Err(ParamFault::BadParams);
+    }
     let mut params = Params::new(alloc);
     let mut left = bytes;
     while !left.is_empty() {
-        if left.len() < PARAM_LEN {
-            return Err(ParamFault::BadParams);
-        }
         let (piece, rest) = left.split_at(PARAM_LEN);
         match decode_param(piece) {
             Some(param) => params.push(param)?,
-            None => return Err(ParamFault::BadParams),
+            None => unreachable!(),
         }
         left = rest;
     }
     Ok(params)
+}
+
+/// Whether the bytes are parameters.
+fn are_params(bytes: &[u8]) -> bool
+    ensures are { OnTrue result (AreParams bytes.now) }
+    ensures bad { OnFalse result ((params : List TypedValue) → bytes.now ≢ spelling params) }
+{
+    let mut left = bytes;
+    while !left.is_empty() {
+        if left.len() < PARAM_LEN {
+            return false;
+        }
+        let (piece, rest) = left.split_at(PARAM_LEN);
+        match decode_param(piece) {
+            Some(_) => left = rest,
+            None => return false,
+        }
+    }
+    true
 }
 
 /// The parameter that seventeen bytes spell, if they spell one.

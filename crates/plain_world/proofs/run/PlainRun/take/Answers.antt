@@ -22,8 +22,8 @@ invariant_of-result c =
           allowed c.in_ok-advance.ensures (omega arith)).kept
     ]
 
-pub returns : goal.returns
-returns c =
+pub returns-clause-taken : goal.returns-clause-taken
+returns-clause-taken c =
     let old : Book = c.self.inside.journal in
     let allowed = (c.if-not-allows.ensures (told old) c.self.invariant.shows).0 refl in
     let P : Book → Type 0 = λ book. IsTaken old book c.args.entry in
