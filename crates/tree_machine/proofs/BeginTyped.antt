@@ -1,11 +1,13 @@
 -- A run of an accepted module begins at a typed configuration.
 use Rattle.std.specs.Prelude.{⊤, MatchOption}
-use Rattle.std.proofs.Common.{◌≡◌, ◌≤◌, ◌<◌, ℕ, ◌+◌, ◌*◌, ◌&&◌, inl, inr, Bool, true, false, cond, nat_le, All, IsSome, List, [], ◌∷◌, ◌++◌, length, map, find, fold, replicate, slice_get, Option, Some, None, unwrap_or, option_map, option_and_then, option_to_list, arith, refl, sym, ◌∙◌, ap, subst, lit<}
+use Rattle.std.proofs.Common.{◌≡◌, ◌≤◌, ◌<◌, ℕ, ◌+◌, ◌*◌, ◌&&◌, inl, inr, Bool, true, false, cond, nat_le, All, IsSome, List, [], ◌∷◌, ◌++◌, length, map, fold, replicate, slice_get, Option, Some, None, unwrap_or, option_map, option_and_then, option_to_list, arith, refl, sym, ◌∙◌, ap, subst, lit<}
 use Rattle.std.proofs.lemmas.Bool.Decides.{nat_tests}
 use Rattle.std.proofs.lemmas.List.{length-replicate}
-use Rattle.std.proofs.lemmas.List.Elements.{All-nil, All-cons, All-head, All-tail, All-replicate, All-weaker}
+use Rattle.std.proofs.lemmas.List.Elements.{All-head, All-tail, All-replicate, All-weaker}
 use Rattle.std.specs.List.{list_all}
-use Rattle.host_port.specs.HostTable.{Row, same_text, host_table, row_of_import, create_data, send, receive, process_id}
+use Rattle.host_port.specs.HostTable.{Row, row_of_import}
+use Rattle.host_port.specs.SoundRows.{IsSoundRow, is_bare}
+use Rattle.host_port.proofs.RowLaws.{rows_sound, import_has}
 use Rattle.host_port.specs.TypedValue.{TypedValue}
 use Rattle.host_port.specs.declared.start.Start.{Start}
 use Rattle.host_port.specs.declared.start.StartRefusal.TheVariants.{BadParams, PagesOver, SegmentOut}
@@ -144,26 +146,13 @@ segments_judged limit m e = (both _ _ e).1
 abbrev IsNotBare : Row → Type 0
 IsNotBare row = row.params ≡ [] → row.result ≡ None → ⊥
 
-found_next : (P : Row → Type 0) (b : Bool) (test : Row → Bool) (r : Row) (rows : List Row) (row : Row) → All P (r ∷ rows) →
-    (find test rows ≡ Some row → P row) → cond b (Some r) (find test rows) ≡ Some row → P row
-found_next P true test r rows row each others e = let same : r ≡ row = cc in subst P same (All-head P r rows each)
-found_next P false test r rows row each others e = others e
+bare_false : (params : List Num) (result : Option Num) → is_bare params result ≡ false → params ≡ [] → result ≡ None → ⊥
+bare_false [] None bare e f = absurd (cc)
+bare_false [] (Some result) bare e f = absurd (cc)
+bare_false (param ∷ params) result bare e f = absurd (cc)
 
-pub found_row : (P : Row → Type 0) (test : Row → Bool) (rows : List Row) (row : Row) → All P rows → find test rows ≡ Some row → P row
-found_row P test [] row each e = absurd (cc)
-found_row P test (r ∷ rows) row each e = found_next P (test r) test r rows row each (λ h. found_row P test rows row (All-tail P r rows each) h) e
-
--- a row that an import finds is one of the table
-pub row_has : (P : Row → Type 0) → All P host_table → (import_module name : List ℕ) (row : Row) → row_of_import import_module name ≡ Some row → P row
-row_has P each import_module name row e =
-    found_row P (λ row. same_text row.import_module import_module && same_text row.import_name name) host_table row each e
-
-not_bare : All IsNotBare host_table
-not_bare =
-    All-cons IsNotBare create_data (send ∷ receive ∷ process_id ∷ []) (λ e f. absurd (cc))
-    (All-cons IsNotBare send (receive ∷ process_id ∷ []) (λ e f. absurd (cc))
-    (All-cons IsNotBare receive (process_id ∷ []) (λ e f. absurd (cc))
-    (All-cons IsNotBare process_id [] (λ e f. absurd (cc)) (All-nil IsNotBare))))
+not_bare : (row : Row) → IsSoundRow row → IsNotBare row
+not_bare row sound = bare_false row.params row.result sound.bare
 
 empty_map : (params : List Num) → map value_type params ≡ [] → params ≡ []
 empty_map [] e = refl
@@ -217,7 +206,7 @@ module _ (host : Host) (m : Parts) (offers : Offers host) (accepted : IsAccepted
             let row = row_there (row_of_import i.«module» i.name) (row_offered (row_of_import i.«module» i.name) (subst IsSome (offers i.«module» i.name) one.has.0)) in
             let offered : host i.«module» i.name ≡ Some (offered_type row.0) = offers i.«module» i.name ∙ ap (option_map offered_type) row.1 in
             let same : ty ≡ offered_type row.0 = one.has.1 index ty (offered_type row.0) (function_is i.what index one.place_is) type_is offered in
-            absurd (row_has IsNotBare not_bare i.«module» i.name row.0 row.1
+            absurd (not_bare row.0 (import_has IsSoundRow rows_sound i.«module» i.name row.0 row.1)
             (empty_map row.0.params (ap (λ (t : FuncType). t.params) (sym same) ∙ no_params))
             (no_result row.0.result (ap (λ (t : FuncType). t.results) (sym same) ∙ no_results)))
         | inr h ↦

@@ -77,11 +77,11 @@ loaded_value code from bytes kind octets fits =
     (if_below (is_among signed_loads code) (unsigned (loaded_bits code) (signed (8 * width_of code) (little_endian part))) (little_endian part) (2 ^ loaded_bits code)
     (unsigned_fits (loaded_bits code) (signed (8 * width_of code) (little_endian part))) (omega arith))
 
-length-low_bytes : (count n : ℕ) → length (low_bytes count n) ≡ count
+pub length-low_bytes : (count n : ℕ) → length (low_bytes count n) ≡ count
 length-low_bytes zero n = refl
 length-low_bytes (suc count) n = ap suc (length-low_bytes count (n / 256))
 
-low_octets : (count n : ℕ) → All IsOctet (low_bytes count n)
+pub low_octets : (count n : ℕ) → All IsOctet (low_bytes count n)
 low_octets zero n = All-nil IsOctet
 low_octets (suc count) n =
     let low : n % 256 < 2 ^ 8 = let byte : 2 ^ 8 ≡ 256 = refl in omega arith in

@@ -1,16 +1,24 @@
 -- A run of an accepted module stands typed, where the replies have the forms of their calls.
-use Rattle.std.proofs.Common.{◌≡◌, ◌≤◌, ◌<◌, ℕ, zero, suc, ◌+◌, ◌^◌, ◌&&◌, Bool, true, false, if◌then◌else◌, nat_lt, nat_eq, All, IsSome, List, [], ◌∷◌, length, map, reverse, slice_get, Option, Some, None, is_some, option_map, option_and_then, option_to_list, arith, refl, sym, ◌∙◌, ap, subst, lit<}
+use Rattle.std.proofs.Common.{◌≡◌, ◌≤◌, ◌<◌, ℕ, zero, suc, ◌+◌, ◌^◌, ◌&&◌, Bool, true, false, if◌then◌else◌, nat_lt, nat_eq, All, IsSome, List, [], ◌∷◌, length, map, reverse, slice_get, Option, Some, None, is_some, option_map, option_and_then, option_to_list, arith, refl, sym, ◌∙◌, ap, subst}
 use Rattle.std.proofs.lemmas.Bool.Decides.{nat_tests}
 use Rattle.std.proofs.lemmas.List.Elements.{All-nil, All-cons, All-head, All-tail, All-contains, All-filter}
 use Rattle.std.specs.Cmp.Lexicographic.{pointwise}
-use Rattle.host_port.specs.Areas.{request_of}
+use Rattle.std.specs.List.{list_all}
+use Rattle.host_port.specs.Areas.{areas_fit, request_of}
 use Rattle.host_port.specs.Forms.{IsResult, HasForm}
-use Rattle.host_port.specs.HostTable.{Row, host_table, row_of_import, create_data, send, receive, process_id, results_of}
+use Rattle.host_port.specs.Rows.{Row, Results, NoResult, OneOf, UpTo, Count, AnyI64}
+use Rattle.host_port.specs.HostTable.{row_of_import, results_of}
+use Rattle.host_port.specs.SoundRows.{IsSoundRow, are_below, are_none, gives_type}
+use Rattle.host_port.proofs.RowLaws.{rows_sound, import_has, import_call}
+use Rattle.host_port.proofs.HostLaws.{results_by}
+use Rattle.wasm_ops.specs.declared.num.Num.{Num}
+use Rattle.wasm_ops.specs.declared.num.Num.TheVariants as nums
+use Rattle.wasm_form.specs.declared.value_type.ValType.{ValType}
+use Rattle.wasm_form.specs.declared.value_type.ValType.TheVariants as types
 use Rattle.host_port.specs.Standing.{State, Ready, Asking, Finished, Trapped, Exhausted}
 use Rattle.host_port.specs.TypedValue.{TypedValue}
 use Rattle.host_port.specs.declared.ask.Ask.{Ask}
 use Rattle.host_port.specs.declared.call.Call.{Call}
-use Rattle.host_port.specs.declared.reply.Reply.{Reply}
 use Rattle.host_port.specs.declared.request.Request.{Request}
 use Rattle.host_port.specs.declared.start.Start.{Start}
 use Rattle.wasm_form.specs.declared.types.FuncType.{FuncType}
@@ -30,51 +38,64 @@ use Rattle.tree_machine.specs.Begin.{begin, begun}
 use Rattle.tree_machine.specs.Run.{course, answer, advanced, run, point_at}
 use Rattle.tree_machine.specs.RunLaws.{at_point, goes_on}
 use Rattle.tree_machine.specs.CallLaws.{course_is, answered_is, and_then_is, advance_is}
-use Rattle.tree_machine.specs.Typed.{AreValues, IsTypedAt, Offers, offered_type, HasForms}
+use Rattle.tree_machine.specs.Typed.{IsValue, AreValues, IsTypedAt, Offers, offered_type, IsAnswered, HasForms}
 use Rattle.tree_machine.proofs.ModuleTyped.{each_at}
 use Rattle.tree_machine.proofs.StepTyped.{step_kept}
 use Rattle.tree_machine.proofs.ReplyTyped.{reply_kept}
-use Rattle.tree_machine.proofs.BeginTyped.{IsHostImport, imports_hosted, module_typed, begun_typed, row_has, function_is}
+use Rattle.tree_machine.proofs.BeginTyped.{IsHostImport, imports_hosted, module_typed, begun_typed, function_is}
 
 -- a result that the call of a row may give is of the row's type
 abbrev GivesTyped : Row → Type 0
-GivesTyped row = (result : Option ℕ) → IsResult (results_of row.call) result → AreValues (reverse (offered_type row).results) (option_to_list result)
+GivesTyped row = (result : Option ℕ) → IsResult (Some row.results) result → AreValues (reverse (offered_type row).results) (option_to_list result)
 
-create_data_gives : GivesTyped create_data
-unfolding results_of
-create_data_gives result h = subst (λ (o : Option ℕ). AreValues [] (option_to_list o)) (sym h) tt
+two_true : (a b : Bool) → (a && b) ≡ true → (a ≡ true) × (b ≡ true)
+two_true true true e = (refl, refl)
+two_true true false e = absurd (cc)
+two_true false b e = absurd (cc)
 
-send_gives : GivesTyped send
-unfolding results_of
-send_gives None h = absurd h
-send_gives (Some n) h = (
-  All-contains (λ n. n < 2 ^ 32) (0 ∷ 1 ∷ 2 ∷ 12 ∷ []) n
-      (All-cons (λ n. n < 2 ^ 32) 0 (1 ∷ 2 ∷ 12 ∷ []) (lit< tt) (All-cons (λ n. n < 2 ^ 32) 1 (2 ∷ 12 ∷ []) (lit< tt)
-      (All-cons (λ n. n < 2 ^ 32) 2 (12 ∷ []) (lit< tt) (All-cons (λ n. n < 2 ^ 32) 12 [] (lit< tt) (All-nil (λ n. n < 2 ^ 32)))))) h,
-  tt,
-)
+each_test : (test : ℕ → Bool) (xs : List ℕ) → list_all test xs ≡ true → All (λ n. test n ≡ true) xs
+each_test test [] e = All-nil (λ (n : ℕ). test n ≡ true)
+each_test test (x ∷ xs) e =
+    let two = two_true (test x) (list_all test xs) e in
+    All-cons (λ (n : ℕ). test n ≡ true) x xs two.0 (each_test test xs two.1)
 
-receive_gives : GivesTyped receive
-unfolding results_of
-receive_gives None h = absurd h
-receive_gives (Some n) h = (
-  All-contains (λ n. n < 2 ^ 32) (0 ∷ 1 ∷ 9027 ∷ []) n
-      (All-cons (λ n. n < 2 ^ 32) 0 (1 ∷ 9027 ∷ []) (lit< tt) (All-cons (λ n. n < 2 ^ 32) 1 (9027 ∷ []) (lit< tt)
-      (All-cons (λ n. n < 2 ^ 32) 9027 [] (lit< tt) (All-nil (λ n. n < 2 ^ 32))))) h,
-  tt,
-)
+-- there is a result, and it is below this number
+abbrev IsBelow : ℕ → Option ℕ → Type 0
+IsBelow limit None = ⊥
+IsBelow limit (Some n) = n < limit
 
-process_id_gives : GivesTyped process_id
-unfolding results_of
-process_id_gives None h = absurd h
-process_id_gives (Some n) h = (h, tt)
+result_below : (limit : ℕ) (results : Results) → are_below limit results ≡ true → (result : Option ℕ) → IsResult (Some results) result → IsBelow limit result
+result_below limit NoResult below result h = absurd (cc)
+result_below limit (OneOf numbers) below None h = absurd h
+result_below limit (OneOf numbers) below (Some n) h =
+    let test : nat_lt n limit ≡ true = All-contains (λ (k : ℕ). nat_lt k limit ≡ true) numbers n (each_test (λ (k : ℕ). nat_lt k limit) numbers below) h in
+    grind (arith, nat_tests)
+result_below limit (UpTo most) below None h = absurd h
+result_below limit (UpTo most) below (Some n) h = let up : n ≤ most = h in grind (arith, nat_tests)
+result_below limit (Count argument most) below None h = absurd h
+result_below limit (Count argument most) below (Some n) h = let up : n ≤ most = h in grind (arith, nat_tests)
+result_below limit AnyI64 below None h = absurd h
+result_below limit AnyI64 below (Some n) h = let up : n < 2 ^ 64 = h in grind (arith, nat_tests)
 
-rows_give : All GivesTyped host_table
-rows_give =
-    All-cons GivesTyped create_data (send ∷ receive ∷ process_id ∷ []) create_data_gives
-    (All-cons GivesTyped send (receive ∷ process_id ∷ []) send_gives
-    (All-cons GivesTyped receive (process_id ∷ []) receive_gives
-    (All-cons GivesTyped process_id [] process_id_gives (All-nil GivesTyped))))
+no_result : (results : Results) → are_none results ≡ true → (result : Option ℕ) → IsResult (Some results) result → AreValues [] (option_to_list result)
+no_result NoResult none result h = subst (λ (o : Option ℕ). AreValues [] (option_to_list o)) (sym h) tt
+no_result (OneOf numbers) none result h = absurd (cc)
+no_result (UpTo most) none result h = absurd (cc)
+no_result (Count argument most) none result h = absurd (cc)
+no_result AnyI64 none result h = absurd (cc)
+
+one_value : (t : ValType) (limit : ℕ) (result : Option ℕ) → ((n : ℕ) → n < limit → IsValue t n) → IsBelow limit result → AreValues (t ∷ []) (option_to_list result)
+one_value t limit None value h = absurd h
+one_value t limit (Some n) value h = (value n h, tt)
+
+results_typed : (wanted : Option Num) (results : Results) → gives_type wanted results ≡ true → (result : Option ℕ) → IsResult (Some results) result →
+    AreValues (reverse (option_to_list (option_map value_type wanted))) (option_to_list result)
+results_typed None results gives result h = no_result results gives result h
+results_typed (Some nums.I32) results gives result h = one_value types.I32 (2 ^ 32) result (λ n less. less) (result_below (2 ^ 32) results gives result h)
+results_typed (Some nums.I64) results gives result h = one_value types.I64 (2 ^ 64) result (λ n less. less) (result_below (2 ^ 64) results gives result h)
+
+row_gives : (row : Row) → IsSoundRow row → GivesTyped row
+row_gives row sound = results_typed row.result row.results sound.results
 
 -- a host call of a module, by its import and its row
 record IsHosted (m : Parts) (x : Option Import) (ty : FuncType) (number : ℕ) : Type 0 where
@@ -120,21 +141,36 @@ both true true e = (refl, refl)
 both true false e = absurd (cc)
 both false b e = absurd (cc)
 
--- the same request is of the same call
-same_call : (r s : Request) → same_request r s ≡ true → r.ask.call ≡ s.ask.call
+same_numbers : (a b : List ℕ) → pointwise nat_eq a b ≡ true → a ≡ b
+same_numbers [] [] e = refl
+same_numbers [] (n ∷ b) e = absurd (cc)
+same_numbers (n ∷ a) [] e = absurd (cc)
+same_numbers (n ∷ a) (k ∷ b) e =
+    let two = both (nat_eq n k) (pointwise nat_eq a b) e in
+    let first : n ≡ k = let test : nat_eq n k ≡ true = two.0 in grind (arith, nat_tests) in
+    let rest : a ≡ b = same_numbers a b two.1 in
+    cc
+
+-- the same request is of the same ask
+asks_same : (a b : Ask) → same_ask a b ≡ true → a ≡ b
+asks_same a b e =
+    let two = both (nat_eq a.call b.call) (pointwise nat_eq a.args b.args) e in
+    let call : a.call ≡ b.call = let test : nat_eq a.call b.call ≡ true = two.0 in grind (arith, nat_tests) in
+    ap (λ (n : ℕ). record { call = n; args = a.args }) call ∙ ap (λ (ns : List ℕ). record { call = b.call; args = ns }) (same_numbers a.args b.args two.1)
+
+truths_same : (a b : Bool) → same_truth a b ≡ true → a ≡ b
+truths_same true true e = refl
+truths_same true false e = absurd (cc)
+truths_same false true e = absurd (cc)
+truths_same false false e = refl
+
+requests_same : (r s : Request) → same_request r s ≡ true → (r.ask ≡ s.ask) × (r.fits ≡ s.fits)
 unfolding same_request
-same_call r s e =
+requests_same r s e =
     let three = both ((same_ask r.ask s.ask && same_truth r.fits s.fits) && pointwise nat_eq r.first s.first) (pointwise nat_eq r.second s.second) e in
     let two = both (same_ask r.ask s.ask && same_truth r.fits s.fits) (pointwise nat_eq r.first s.first) three.0 in
-    let ask = both (same_ask r.ask s.ask) (same_truth r.fits s.fits) two.0 in
-    let number : nat_eq r.ask.call s.ask.call ≡ true = (both (nat_eq r.ask.call s.ask.call) (pointwise nat_eq r.ask.args s.ask.args) ask.0).0 in
-    grind (arith, nat_tests)
-
-form_of : (a b : Ask) (reply : Reply) → a.call ≡ b.call → HasForm a reply → HasForm b reply
-form_of a b reply same form = record {
-  result = subst (λ (n : ℕ). IsResult (results_of n) reply.result) same form.result;
-  writes = record { no_word = form.writes.no_word; no_text = form.writes.no_text };
-}
+    let one = both (same_ask r.ask s.ask) (same_truth r.fits s.fits) two.0 in
+    (asks_same r.ask s.ask one.0, truths_same r.fits s.fits one.1)
 
 at_same : (m : Parts) (p q : Point) → p ≡ q → IsTypedAt m p.state p.config → IsTypedAt m q.state q.config
 at_same m p q e h = subst (λ (x : Point). IsTypedAt m x.state x.config) e h
@@ -154,7 +190,9 @@ module _ (host : Offer) (m : Parts) (offers : Offers host) (accepted : IsAccepte
       let offered : host i.«module» i.name ≡ Some (offered_type is.row) = offers i.«module» i.name ∙ ap (option_map offered_type) is.row_is in
       let same : ty ≡ offered_type is.row = hosts.1 place.0 ty (offered_type is.row) (function_is i.what place.0 place.1) place.2 offered in
       subst (λ (t : FuncType). AreValues (reverse t.results) (option_to_list result)) (sym same)
-      (row_has GivesTyped rows_give i.«module» i.name is.row is.row_is result (subst (λ (n : ℕ). IsResult (results_of n) result) (sym is.number_is) h))
+      (row_gives is.row (import_has IsSoundRow rows_sound i.«module» i.name is.row is.row_is) result
+      (subst (λ (o : Option Results). IsResult o result) (results_by is.row.call is.row (import_call i.«module» i.name is.row is.row_is))
+      (subst (λ (n : ℕ). IsResult (results_of n) result) (sym is.number_is) h)))
 
   answer_typed : (s : State) (c : Config) (calls left : List Call) (p : Point) → answer m s c calls ≡ Some (course left p) → IsTypedAt m s c → HasForms calls →
       IsTypedAt m p.state p.config × HasForms left
@@ -170,13 +208,14 @@ module _ (host : Offer) (m : Parts) (offers : Offers host) (accepted : IsAccepte
       let is = course_is [] left (point (Asking ask) c) p e in (at_same m (point (Asking ask) c) p is.1 typed, subst HasForms is.0 forms)
   answer_typed (Asking ask) c (call ∷ rest) left p e (index, ty, found, typed) forms =
       let is = answered_is (same_request call.request (request_of (bytes_of c.memory) ask)) (replied m c call.reply) rest left p e in
-      let form : HasForm ask call.reply =
-      form_of call.request.ask ask call.reply (same_call call.request (request_of (bytes_of c.memory) ask) is.0)
-      (All-head (λ (call : Call). HasForm call.request.ask call.reply) call rest forms) in
-      let kept = reply_kept m (module_typed host m offers accepted spelled) ask (reverse ty.results) c call.reply typed form
+      let same = requests_same call.request (request_of (bytes_of c.memory) ask) is.0 in
+      let answered : IsAnswered call = All-head IsAnswered call rest forms in
+      let form : HasForm ask call.reply = subst (λ (a : Ask). HasForm a call.reply) same.0 answered.form in
+      let fits : areas_fit (bytes_of c.memory) ask ≡ true = sym same.1 ∙ answered.fits in
+      let kept = reply_kept m (module_typed host m offers accepted spelled) ask (reverse ty.results) c call.reply typed fits form
       (result_typed index ty ask.call call.reply.result found form.result) in (
         at_same m kept.0 p (same_some (replied m c call.reply) kept.0 p kept.1 is.1) kept.2,
-        subst HasForms is.2 (All-tail (λ (call : Call). HasForm call.request.ask call.reply) call rest forms),
+        subst HasForms is.2 (All-tail IsAnswered call rest forms),
       )
 
   ready_typed : (s : State) (c : Config) → s ≡ Ready → IsTypedAt m s c → IsTypedAt m Ready c

@@ -2,7 +2,7 @@
 use Rattle.std.proofs.Common.{◌≡◌, ℕ, ◌+◌, ◌^◌, ◌-◌, ◌*◌, List, [], ◌∷◌, ◌++◌, replicate, Some, None, refl, true, codes}
 use Rattle.wasm_ops.specs.declared.num.Num.TheVariants as num
 use Rattle.wasm_ops.specs.declared.trap.Trap.TheVariants as traps
-use Rattle.host_port.specs.HostTable.{areas_read, areas_of}
+use Rattle.host_port.specs.HostTable.{areas_read, areas_of, are_sound, row_of, row_of_import, all_rows, is_served}
 use Rattle.host_port.specs.Standing.{Ready, Asking, Finished, Trapped, Exhausted, state_of}
 use Rattle.host_port.specs.declared.stop.Spent.TheVariants as limit
 use Rattle.host_port.specs.declared.ask.Ask.{Ask}
@@ -201,30 +201,36 @@ answer_to a result = record {
 
 -- a host call is asked
 asks : state_of (at (record (functions (ty (I64 ∷ []) (I32 ∷ []) ∷ ty [] (I64 ∷ []) ∷ ty [] [] ∷ []) (no_locals (index 0x10 1 ∷ index 0x10 0 ∷ i32 2 ∷ bare 0x47 ∷ if_instr None ∷ bare 0x00 ∷ end_instr ∷ []) ∷ [])) { functions = 2 ∷ []; imports = record { «module» = codes "lunatic::message"; name = codes "send"; what = imported.Function 0 } ∷ record { «module» = codes "lunatic::process"; name = codes "process_id"; what = imported.Function 1 } ∷ []; exports = record { name = codes "_start"; kind = kind.Function; index = 2 } ∷ [] }) (start 100) [] 1) ≡ Some (Asking (ask 10 0))
-unfolding at point_at run step next execute_plain judged settle settled begin begun entry_of own_function callee_of tree_of read plain_of value_of segments_lie_in same_request replied areas_read areas_of
+unfolding at point_at run step next execute_plain judged settle settled begin begun entry_of own_function callee_of tree_of read plain_of value_of segments_lie_in
+    same_request replied areas_read areas_of are_sound row_of row_of_import all_rows is_served
 asks = refl
 
 -- its result is the argument of the next
 answered_so : state_of (at (record (functions (ty (I64 ∷ []) (I32 ∷ []) ∷ ty [] (I64 ∷ []) ∷ ty [] [] ∷ []) (no_locals (index 0x10 1 ∷ index 0x10 0 ∷ i32 2 ∷ bare 0x47 ∷ if_instr None ∷ bare 0x00 ∷ end_instr ∷ []) ∷ [])) { functions = 2 ∷ []; imports = record { «module» = codes "lunatic::message"; name = codes "send"; what = imported.Function 0 } ∷ record { «module» = codes "lunatic::process"; name = codes "process_id"; what = imported.Function 1 } ∷ []; exports = record { name = codes "_start"; kind = kind.Function; index = 2 } ∷ [] }) (start 100) (answer_to (ask 10 0) 77 ∷ []) 2) ≡ Some (Asking (ask 8 77))
-unfolding at point_at run step next execute_plain judged settle settled begin begun entry_of own_function callee_of tree_of read plain_of value_of segments_lie_in same_request replied areas_read areas_of
+unfolding at point_at run step next execute_plain judged settle settled begin begun entry_of own_function callee_of tree_of read plain_of value_of segments_lie_in
+    same_request replied areas_read areas_of are_sound row_of row_of_import all_rows is_served
 answered_so = refl
 
 -- and that one's result goes on
 answered_on : state_of (at (record (functions (ty (I64 ∷ []) (I32 ∷ []) ∷ ty [] (I64 ∷ []) ∷ ty [] [] ∷ []) (no_locals (index 0x10 1 ∷ index 0x10 0 ∷ i32 2 ∷ bare 0x47 ∷ if_instr None ∷ bare 0x00 ∷ end_instr ∷ []) ∷ [])) { functions = 2 ∷ []; imports = record { «module» = codes "lunatic::message"; name = codes "send"; what = imported.Function 0 } ∷ record { «module» = codes "lunatic::process"; name = codes "process_id"; what = imported.Function 1 } ∷ []; exports = record { name = codes "_start"; kind = kind.Function; index = 2 } ∷ [] }) (start 100) (answer_to (ask 10 0) 77 ∷ answer_to (ask 8 77) 2 ∷ []) 5) ≡ Some Finished
-unfolding at point_at run step next execute_plain judged settle settled begin begun entry_of own_function callee_of tree_of read plain_of value_of segments_lie_in same_request replied areas_read areas_of
+unfolding at point_at run step next execute_plain judged settle settled begin begun entry_of own_function callee_of tree_of read plain_of value_of segments_lie_in
+    same_request replied areas_read areas_of are_sound row_of row_of_import all_rows is_served
 answered_on = refl
 
 -- calls that are not asked
 too_many_calls : state_of (at (record (functions (ty (I64 ∷ []) (I32 ∷ []) ∷ ty [] (I64 ∷ []) ∷ ty [] [] ∷ []) (no_locals (index 0x10 1 ∷ index 0x10 0 ∷ i32 2 ∷ bare 0x47 ∷ if_instr None ∷ bare 0x00 ∷ end_instr ∷ []) ∷ [])) { functions = 2 ∷ []; imports = record { «module» = codes "lunatic::message"; name = codes "send"; what = imported.Function 0 } ∷ record { «module» = codes "lunatic::process"; name = codes "process_id"; what = imported.Function 1 } ∷ []; exports = record { name = codes "_start"; kind = kind.Function; index = 2 } ∷ [] }) (start 100) (answer_to (ask 10 0) 77 ∷ answer_to (ask 8 77) 2 ∷ []) 1) ≡ None
-unfolding at point_at run step next execute_plain judged settle settled begin begun entry_of own_function callee_of tree_of read plain_of value_of segments_lie_in same_request replied areas_read areas_of
+unfolding at point_at run step next execute_plain judged settle settled begin begun entry_of own_function callee_of tree_of read plain_of value_of segments_lie_in
+    same_request replied areas_read areas_of are_sound row_of row_of_import all_rows is_served
 too_many_calls = refl
 
 -- another request
 other_call : state_of (at (record (functions (ty (I64 ∷ []) (I32 ∷ []) ∷ ty [] (I64 ∷ []) ∷ ty [] [] ∷ []) (no_locals (index 0x10 1 ∷ index 0x10 0 ∷ i32 2 ∷ bare 0x47 ∷ if_instr None ∷ bare 0x00 ∷ end_instr ∷ []) ∷ [])) { functions = 2 ∷ []; imports = record { «module» = codes "lunatic::message"; name = codes "send"; what = imported.Function 0 } ∷ record { «module» = codes "lunatic::process"; name = codes "process_id"; what = imported.Function 1 } ∷ []; exports = record { name = codes "_start"; kind = kind.Function; index = 2 } ∷ [] }) (start 100) (answer_to (ask 10 1) 77 ∷ []) 1) ≡ None
-unfolding at point_at run step next execute_plain judged settle settled begin begun entry_of own_function callee_of tree_of read plain_of value_of segments_lie_in same_request replied areas_read areas_of
+unfolding at point_at run step next execute_plain judged settle settled begin begun entry_of own_function callee_of tree_of read plain_of value_of segments_lie_in
+    same_request replied areas_read areas_of are_sound row_of row_of_import all_rows is_served
 other_call = refl
 
 -- an imported function is no entry
 imported_entry : begin (record (record (functions (ty (I64 ∷ []) (I32 ∷ []) ∷ ty [] (I64 ∷ []) ∷ ty [] [] ∷ []) (no_locals (index 0x10 1 ∷ index 0x10 0 ∷ i32 2 ∷ bare 0x47 ∷ if_instr None ∷ bare 0x00 ∷ end_instr ∷ []) ∷ [])) { functions = 2 ∷ []; imports = record { «module» = codes "lunatic::message"; name = codes "send"; what = imported.Function 0 } ∷ record { «module» = codes "lunatic::process"; name = codes "process_id"; what = imported.Function 1 } ∷ []; exports = record { name = codes "_start"; kind = kind.Function; index = 2 } ∷ [] }) { exports = record { name = codes "_start"; kind = kind.Function; index = 1 } ∷ [] }) (start 100) ≡ Some NoExport
-unfolding at point_at run step next execute_plain judged settle settled begin begun entry_of own_function callee_of tree_of read plain_of value_of segments_lie_in same_request replied areas_read areas_of
+unfolding at point_at run step next execute_plain judged settle settled begin begun entry_of own_function callee_of tree_of read plain_of value_of segments_lie_in
+    same_request replied areas_read areas_of are_sound row_of row_of_import all_rows is_served
 imported_entry = refl

@@ -1,5 +1,5 @@
 -- Typed configurations: the typing of a module says of each which types its values have, so that a rule applies to it.
-use Rattle.std.specs.Prelude.{◌≡◌, ℕ, ◌*◌, ◌%◌, ◌^◌, ◌<◌, ◌≤◌, ⊤, List, [], ◌∷◌, ◌++◌, length, map, reverse, replicate, flat_map, All, slice_get, Option, Some, None, option_map, option_to_list}
+use Rattle.std.specs.Prelude.{◌≡◌, ℕ, ◌*◌, ◌%◌, ◌^◌, ◌<◌, ◌≤◌, ⊤, List, [], ◌∷◌, ◌++◌, length, map, reverse, replicate, flat_map, All, slice_get, Option, Some, None, option_map, option_to_list, true}
 use Rattle.linear_memory.specs.Contents.{Contents, page_size}
 use Rattle.host_port.specs.Standing.{State, Ready, Asking, Finished, Trapped, Exhausted}
 use Rattle.wasm_form.specs.declared.value_type.ValType.{ValType}
@@ -194,9 +194,14 @@ offered_type row = arrow (map value_type row.params) (option_to_list (option_map
 abbrev pub Offers : Offer → Type 0
 Offers host = (import_module name : List ℕ) → host import_module name ≡ option_map offered_type (row_of_import import_module name)
 
--- each reply has the form of its call
+-- a call was answered so: the areas of its request fit, and the reply has the form of the call
+pub record IsAnswered (call : Call) : Type 0 where
+  pub fits : call.request.fits ≡ true
+  pub form : HasForm call.request.ask call.reply
+
+-- each of these calls was
 abbrev pub HasForms : List Call → Type 0
-HasForms calls = All (λ (call : Call). HasForm call.request.ask call.reply) calls
+HasForms calls = All IsAnswered calls
 
 -- a process may have 1,024 pages at most, and the parameters are values of their types
 pub record IsTypedStart (start : Start) : Type 0 where

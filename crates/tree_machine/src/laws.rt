@@ -1,5 +1,5 @@
-ghost use Rattle.std.specs.Prelude.{◌≡◌, ◌≢◌, ℕ, ◌+◌, ◌<◌, ◌≤◌, List, [], ◌∷◌, ◌++◌, Some, None, IsSome, option_to_list};
-ghost use Rattle.host_port.specs.Areas.{request_of};
+ghost use Rattle.std.specs.Prelude.{◌≡◌, ◌≢◌, ℕ, ◌+◌, ◌<◌, ◌≤◌, List, [], ◌∷◌, ◌++◌, Some, None, IsSome, option_to_list, IsTrue};
+ghost use Rattle.host_port.specs.Areas.{areas_fit, request_of};
 ghost use Rattle.host_port.specs.Forms.{HasForm};
 ghost use Rattle.host_port.specs.Standing.{Ready, Asking, state_of};
 ghost use Rattle.host_port.specs.declared.ask.Ask.{Ask};
@@ -73,10 +73,10 @@ pub fn runs_began_so()
 pub fn typed_runs_go_on()
     // By each instruction.
     ensures steps { (m : Parts) (c : Config) → IsTypedModule m → IsTypedAt m Ready c → StandsTyped m (step m c) }
-    // By a reply of the call's form whose result has the types that the configuration waits for.
+    // By a reply of the call's form, where the call's areas fit, whose result has the types that the configuration waits for.
     ensures replies { (m : Parts) (ask : Ask) (given : List ValType) (c : Config) (reply : Reply) →
-        IsTypedModule m → IsTyped m given c → HasForm ask reply → AreValues given (option_to_list reply.result) →
-        StandsTyped m (replied m c reply) }
+        IsTypedModule m → IsTyped m given c → IsTrue (areas_fit (bytes_of c.memory) ask) → HasForm ask reply →
+        AreValues given (option_to_list reply.result) → StandsTyped m (replied m c reply) }
 {}
 
 /// A run of an accepted module that bytes spell, over the host's table, is never stuck where the replies have the forms of
