@@ -1,0 +1,12 @@
+pub mod Growing
+pub mod Sizes
+pub mod Advancing
+pub mod Counting
+pub mod Small
+pub mod Stepping
+pub mod Bodies
+pub mod Pushed
+pub mod Ready
+pub mod Found
+pub mod Keys
+pub mod Smallest

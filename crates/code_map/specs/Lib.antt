@@ -1,0 +1,11 @@
+pub mod Flows
+pub mod Targets
+pub mod Mapped
+pub mod Callees
+pub mod Keys
+pub mod Maps
+pub mod Left
+pub mod Marks
+pub mod Counts
+pub mod Steps
+pub mod Ready
