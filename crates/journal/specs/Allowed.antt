@@ -2,8 +2,9 @@ use Rattle.std.specs.Prelude.{◌≡◌, ℕ, ◌+◌, ◌-◌, ◌≤◌, List,
 use Rattle.host_port.specs.declared.start.Start.{Start}
 use Rattle.host_port.specs.declared.call.Call.{Call}
 use Rattle.host_port.specs.declared.request.Request.{Request}
-use Rattle.host_port.specs.HostTable.{send, receive}
-use Rattle.host_port.specs.Turn.{most_instructions, most_answers, IsUsedUp}
+use Rattle.host_port.specs.declared.row.MayCome.TheVariants as comes
+use Rattle.host_port.specs.HostTable.{send, may_come_of}
+use Rattle.turn_rules.specs.Turn.{turn_fuel, most_answers, IsUsedUp}
 use Rattle.journal.specs.declared.entry.Entry.{Entry}
 use Rattle.journal.specs.declared.entry.Entry.TheVariants as EntryIs
 use Rattle.journal.specs.declared.halt.Halt.{Halt}
@@ -42,10 +43,10 @@ IsRefusal processes (Waiting request') request = ⊥
 IsRefusal processes (Doomed worker end) request = ⊥
 IsRefusal processes (Ended end) request = ⊥
 
--- what may come from outside with a request: the clock with a receive; with a send nothing, or the refusal of memory
+-- what may come from outside with a request: nothing or the clock, as the row of its call says; or the refusal of memory
 abbrev pub SideFits : (ℕ → Process) → Stage → Request → Side → Type 0
-SideFits processes stage request SideIs.Nothing = request.ask.call ≡ send.call
-SideFits processes stage request (SideIs.Clock now) = request.ask.call ≡ receive.call
+SideFits processes stage request SideIs.Nothing = may_come_of request.ask.call ≡ Some comes.Nothing
+SideFits processes stage request (SideIs.Clock now) = may_come_of request.ask.call ≡ Some comes.Clock
 SideFits processes stage request SideIs.NoMemory = IsRefusal processes stage request
 
 -- a turn may end by asking for a call that isn't local and is judged fit
@@ -57,7 +58,7 @@ AskFits processes p calls request side =
 abbrev pub FaultFits : Process → List Call → HostFault → Request → Side → Type 0
 FaultFits p calls fault request side = (side ≡ SideIs.Nothing) × (judge p.start (part_after p.start p.part calls) request ≡ Faulty fault)
 
--- what a turn may end with, its local calls done, after it has executed so many instructions
+-- what a turn may end with, its local calls done, after it has burnt so much fuel
 abbrev pub HaltFits : (ℕ → Process) → Process → List Call → ℕ → Halt → Side → Type 0
 HaltFits processes p calls executed HaltIs.Slice side = (side ≡ SideIs.Nothing) × ∥ IsUsedUp executed (length calls) ∥₁
 HaltFits processes p calls executed (HaltIs.Asks request) side = AskFits processes p calls request side
@@ -71,7 +72,7 @@ HaltFits processes p calls executed HaltIs.NoMemory side = side ≡ SideIs.Nothi
 pub record GiveFits (processes : ℕ → Process) (p : Process) (worker : ℕ) (calls : List Call) (fuel : ℕ) (halt : Halt) (side : Side) : Type 0 where
   pub away : IsWith p.stage worker
   pub grown : p.fuel ≤ fuel
-  pub executed : fuel ≤ p.fuel + most_instructions
+  pub executed : fuel ≤ p.fuel + turn_fuel
   pub answered : length calls ≤ most_answers
   pub local : AreLocal p.start p.part calls
   pub halted : HaltFits processes p calls (fuel - p.fuel) halt side

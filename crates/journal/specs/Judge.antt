@@ -3,27 +3,16 @@ use Rattle.host_port.specs.declared.start.Start.{Start}
 use Rattle.host_port.specs.declared.call.Call.{Call}
 use Rattle.host_port.specs.declared.request.Request.{Request}
 use Rattle.host_port.specs.declared.reply.Reply.{Reply}
-use Rattle.host_port.specs.HostTable.{Kind, Local, World, Row, row_of, create_data, send, process_id}
+use Rattle.host_port.specs.HostTable.{create_data, send, process_id}
+pub use Rattle.host_port.specs.HostTable.{kind_of, is_local}
 use Rattle.journal.specs.declared.halt.HostFault.{HostFault}
 use Rattle.journal.specs.declared.halt.HostFault.TheVariants.{NoMessage, BadPointer}
 use Rattle.journal.specs.Moves.{Move, ShutScratch}
 use Rattle.journal.specs.Mail.{Message, blank_message}
 use Rattle.journal.specs.Part.{Part}
 
--- How a request is judged, and how a local call is answered from the process's own part.
-
--- who performs a call; nothing for a call that is not in the host table
-abbrev pub kind_of : ℕ → Option Kind
-kind_of call = option_map (λ (row : Row). row.kind) (row_of call)
-
--- a local call is answered within the turn, from the process's own part
-abbrev pub is_local_kind : Option Kind → Bool
-is_local_kind None = false
-is_local_kind (Some Local) = true
-is_local_kind (Some World) = false
-
-abbrev pub is_local : ℕ → Bool
-is_local call = is_local_kind (kind_of call)
+-- How a request is judged, and how a local call is answered from the process's own part. Which calls are local, the row of
+-- the call tells.
 
 -- a request is fit, or a fault ends the process and the call isn't performed
 pub data Judgement : Type 0 where

@@ -4,7 +4,7 @@ use Rattle.host_port.specs.declared.start.StartRefusal.{StartRefusal}
 use Rattle.host_port.specs.declared.call.Call.{Call}
 use Rattle.host_port.specs.Standing.{Standing, memory_of}
 use Rattle.host_port.specs.Memory.{pages_of, mark_of}
-use Rattle.host_port.specs.Turn.{Ending, Sliced, Meets, Returns, Traps, Exceeds, IsTurn, IsCutShort}
+use Rattle.turn_rules.specs.Turn.{Ending, Sliced, Meets, Returns, Traps, Exceeds, IsTurn, IsCutShort}
 use Rattle.journal.specs.declared.entry.Entry.{Entry}
 use Rattle.journal.specs.declared.entry.Entry.TheVariants as EntryIs
 use Rattle.journal.specs.declared.halt.Halt.{Halt}
@@ -20,7 +20,7 @@ use Rattle.journal.specs.Runs.{told, Legal}
 -- Each life is the run of its program.
 
 -- what a run is over: the programs, by their numbers; why a program doesn't start so, or nothing; where its run stands,
--- started so, after these calls and so many instructions; and the terms
+-- started so, after these calls and so much fuel; and the terms
 pub record Setting (P : Type 0) : Type 0 where
   pub programs : List P
   pub begin : P → Start → Option StartRefusal
@@ -44,13 +44,13 @@ HasEnding (HaltIs.Spent spent) ending = ending ≡ Exceeds spent
 HasEnding (HaltIs.Host fault request) ending = ending ≡ Meets request
 HasEnding HaltIs.NoMemory ending = ⊥
 
--- a turn with these calls and so many instructions that ended with this halt
+-- a turn with these calls and so much fuel burnt that ended with this halt
 pub record IsWholeTurn (at : List Call → ℕ → Option Standing) (p : Process) (calls : List Call) (executed : ℕ) (halt : Halt) : Type 0 where
   pub ending : Ending
   pub halted : HasEnding halt ending
   pub turn : IsTurn at (local p.start) p.start.limits.fuel p.part p.calls p.fuel calls executed ending
 
--- the calls, the instructions and the halt are those of the process's turn from where it stood, or of such a turn that was
+-- the calls, the fuel and the halt are those of the process's turn from where it stood, or of such a turn that was
 -- cut short for want of memory
 abbrev pub IsTurnOf : (List Call → ℕ → Option Standing) → Process → List Call → ℕ → Halt → Type 0
 IsTurnOf at p calls executed HaltIs.Slice = IsWholeTurn at p calls executed HaltIs.Slice

@@ -21,7 +21,7 @@ pub data Stage : Type 0 where
   Doomed : (worker : ℕ) (end : End) → Stage
   Ended : (end : End) → Stage
 
--- a process: how it was started, where it is, its own part, the instructions that it had executed at its last Give,
+-- a process: how it was started, where it is, its own part, the fuel that it had burnt at its last Give,
 -- its calls that were answered, in order, and its mailbox, the oldest first
 pub record Process : Type 0 where
   pub start : Start

@@ -1,7 +1,7 @@
 ghost use Rattle.std.specs.Prelude.{◌≡◌, ◌↔◌, ◌+◌, ◌-◌, ◌≤◌, ℕ, List, Option, Some, None, option_map, is_some, length, IsTrue};
 ghost use Rattle.host_port.specs.declared.start.Start.{Start};
 ghost use Rattle.host_port.specs.declared.reply.Reply.{Reply};
-ghost use Rattle.host_port.specs.Turn.{IsUsedUp};
+ghost use Rattle.turn_rules.specs.Turn.{IsUsedUp};
 ghost use Rattle.journal.specs.declared.entry.Entry.TheVariants as EntryIs;
 ghost use Rattle.journal.specs.Part.{Part};
 ghost use Rattle.journal.specs.World.{World, is_ready};
@@ -11,7 +11,10 @@ ghost use Rattle.journal.specs.Allowed.{Allowed, IsStuck, IsWith, IsRefusal, Sid
 ghost use Rattle.journal.specs.Plain.{Agrees, Shows, message_of, stage_of};
 
 use crate::{Entry, Halt, HostFault, PlainMessage, PlainStage, PlainWorld, Side};
-use host_port::{Call, Reply, Request};
+use host_port::{Call, MayCome, Reply, Request, is_local, may_come};
+
+/// The number of the call process_id, which is answered the number of the process.
+const PROCESS_ID: u8 = 10;
 
 /// A reply that is nothing.
 fn is_empty_reply(reply: &Reply) -> bool
@@ -27,16 +30,6 @@ fn is_number_reply(reply: &Reply, number: u64) -> bool
     reply.result == Some(number) && reply.word.is_none() && reply.text.is_none()
 }
 
-/// A call that a turn answers.
-fn is_local_call(call: u8) -> bool
-    ensures { result ≡ is_local call }
-{
-    match call {
-        0 | 10 => true,
-        _ => false,
-    }
-}
-
 /// The call is local, is judged fit and has the reply that process 1 gets.
 fn is_answered_locally(call: &Call) -> bool
     ensures { (start : Start) (part : Part) → start.pid ≡ 1 →
@@ -45,11 +38,13 @@ fn is_answered_locally(call: &Call) -> bool
     if !call.request.fits {
         return false;
     }
-    match call.request.ask.call {
-        0 => is_empty_reply(&call.reply),
-        10 => is_number_reply(&call.reply, 1),
-        _ => false,
+    if !is_local(call.request.ask.call) {
+        return false;
     }
+    if call.request.ask.call == PROCESS_ID {
+        return is_number_reply(&call.reply, 1);
+    }
+    is_empty_reply(&call.reply)
 }
 
 /// Each of these calls is local, is judged fit and has the reply that process 1 gets.
@@ -115,7 +110,7 @@ fn is_nothing(side: &Side) -> bool
 fn is_used_up(executed: u64, answers: usize) -> bool
     ensures { IsTrue result ↔ ∥ IsUsedUp executed answers ∥₁ }
 {
-    executed == 10_000 || answers == 64
+    executed >= 10_000 || answers == 64
 }
 
 impl PlainWorld {
@@ -142,8 +137,8 @@ impl PlainWorld {
             (IsTrue result ↔ SideFits w.process (w.process 1).stage request.now side.now) }
     {
         match side {
-            Side::Nothing => request.ask.call == 8,
-            Side::Clock(_) => request.ask.call == 9,
+            Side::Nothing => matches!(may_come(request.ask.call), Some(MayCome::Nothing)),
+            Side::Clock(_) => matches!(may_come(request.ask.call), Some(MayCome::Clock)),
             Side::NoMemory => self.allows_refusal(request),
         }
     }
@@ -160,7 +155,7 @@ impl PlainWorld {
     fn allows_ask(&self, calls: &[Call], request: &Request, side: &Side) -> bool
         ensures { (w : World) → Agrees self.now w → (IsTrue result ↔ AskFits w.process (w.process 1) calls.now request.now side.now) }
     {
-        if is_local_call(request.ask.call) {
+        if is_local(request.ask.call) {
             return false;
         }
         match self.judged_after(calls, request) {
@@ -182,7 +177,7 @@ impl PlainWorld {
         }
     }
 
-    /// What a turn with these local calls may end with, after so many instructions.
+    /// What a turn with these local calls may end with, so much fuel burnt.
     fn allows_halt(&self, calls: &[Call], executed: u64, halt: &Halt, side: &Side) -> bool
         ensures { (w : World) → Agrees self.now w →
             (IsTrue result ↔ HaltFits w.process (w.process 1) calls.now executed halt.now side.now) }

@@ -30,7 +30,7 @@ pub enum Entry {
         pid: u64,
         /// The calls that were answered within the turn, in order, with their replies.
         calls: Calls,
-        /// The instructions that the process has executed since its birth.
+        /// The fuel that the process has burnt since its birth.
         fuel: u64,
         /// Why the turn ended.
         halt: Halt,

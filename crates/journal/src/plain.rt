@@ -78,7 +78,7 @@ pub struct PlainWorld {
     pub stage: PlainStage,
     /// The message of its scratch area.
     pub scratch: Option<PlainMessage>,
-    /// The instructions that it had executed at its last Give.
+    /// The fuel that it had burnt at its last Give.
     pub fuel: u64,
     /// Its mailbox, the oldest message first.
     pub mail: Vec<PlainLetter>,

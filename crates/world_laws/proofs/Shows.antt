@@ -1,11 +1,12 @@
-use Rattle.std.proofs.Common.{◌≡◌, ℕ, List, [], ◌∷◌, Some, Bool, true, false, cond, nat_eq, lit<, refl, sym, ◌∙◌, ap, subst}
+use Rattle.std.proofs.Common.{◌≡◌, ℕ, List, [], ◌∷◌, Some, None, Contains, Bool, true, false, cond, nat_eq, lit<, refl, sym, ◌∙◌, ap, subst}
 use Rattle.host_port.specs.declared.call.Call.{Call}
 use Rattle.host_port.specs.declared.request.Request.{Request}
-use Rattle.host_port.specs.Forms.{IsResult}
-use Rattle.host_port.specs.HostTable.{results_of}
+use Rattle.host_port.specs.declared.ask.Ask.{Ask}
+use Rattle.host_port.specs.Forms.{HasForm, text_of, word_of}
+use Rattle.host_port.specs.HostTable.{OneOf, send, receive, results_of}
 use Rattle.host_port.specs.Standing.{Running}
 use Rattle.host_port.specs.Steps.{IsAnswerable}
-use Rattle.host_port.proofs.HostLaws.{send-results, receive-results}
+use Rattle.host_port.proofs.HostLaws.{send-row, receive-row, send-results, receive-results, text_by, word_by}
 use Rattle.journal.specs.declared.entry.Entry.TheVariants.{Take}
 use Rattle.journal.specs.declared.entry.Side.{Side}
 use Rattle.journal.specs.declared.halt.Halt.TheVariants.{Asks}
@@ -70,30 +71,41 @@ front-first book held pid rest keeps front =
     let home : is_away (w.process 1).stage ≡ false = ready_home (w.process 1).stage ready in
     (one, subst (λ (k : ℕ). (w.process k).start.pid ≡ k) (sym one) keeps.first.numbered, sym keeps.out ∙ count-alone w keeps.first.drawn ∙ ap (λ (b : Bool). cond b 1 0) home, alone w pid one keeps.first rest listed.1 listed.2)
 
--- an engine that owes a reply may be given one of the numbers that its call may give
-answerable : {E P : Type 0} (engines : Meaning E P) (setting : Setting P) (w : World) (worker pid : ℕ) (seat : Seat E) (calls : List Call) (request : Request) (side : Side) (answer : ℕ) → TurnFits engines setting w worker pid seat calls (Asks request) side → IsResult (results_of request.ask.call) (Some answer) → IsAnswerable (engines.phase seat.engine) (engines.memory seat.engine) (number_reply answer)
-answerable engines setting w worker pid seat calls request side answer fits result = record {
+-- a number has the form of a call that gives it and writes nothing
+number_form : (ask : Ask) (numbers : List ℕ) (answer : ℕ) → results_of ask.call ≡ Some (OneOf numbers) → text_of ask.call ≡ None → word_of ask.call ≡ None →
+    Contains numbers answer → HasForm ask (number_reply answer)
+number_form ask numbers answer results text word among = record {
+  result = rw results among;
+  count = rw results tt;
+  writes = record { text_is = rw text refl; word_is = rw word refl };
+}
+
+-- an engine that owes a reply may be given a number that has the form of its call
+answerable : {E P : Type 0} (engines : Meaning E P) (setting : Setting P) (w : World) (worker pid : ℕ) (seat : Seat E) (calls : List Call) (request : Request) (side : Side) (answer : ℕ) → TurnFits engines setting w worker pid seat calls (Asks request) side → HasForm request.ask (number_reply answer) → IsAnswerable (engines.phase seat.engine) (engines.memory seat.engine) (number_reply answer)
+answerable engines setting w worker pid seat calls request side answer fits form = record {
   ask = request.ask;
   owed = fits.phase.0;
   fits = ap (λ (r : Request). r.fits) (sym fits.phase.1) ∙ fit-fits request.fits _ fits.allowed.halted.1;
-  form = record { result = result; writes = record { no_word = refl; no_text = refl } };
+  form = form;
 }
 
-post_result : (outcome : Post) → IsResult (results_of 8) (Some (code_of outcome))
-post_result Put = rw send-results (0, lit< tt, refl)
-post_result Nobody = rw send-results (1, lit< tt, refl)
-post_result Full = rw send-results (2, lit< tt, refl)
-post_result Refused = rw send-results (3, lit< tt, refl)
+post_number : (outcome : Post) → Contains (0 ∷ 1 ∷ 2 ∷ 12 ∷ []) (code_of outcome)
+post_number Put = (0, lit< tt, refl)
+post_number Nobody = (1, lit< tt, refl)
+post_number Full = (2, lit< tt, refl)
+post_number Refused = (3, lit< tt, refl)
 
-receipt_result : (receipt : Receipt) → IsResult (results_of 9) (Some (receipt_code receipt))
-receipt_result ReceiptIs.Delivered = rw receive-results (0, lit< tt, refl)
-receipt_result ReceiptIs.TimedOut = rw receive-results (2, lit< tt, refl)
-receipt_result ReceiptIs.Waits = rw receive-results (2, lit< tt, refl)
+receipt_number : (receipt : Receipt) → Contains (0 ∷ 1 ∷ 9027 ∷ []) (receipt_code receipt)
+receipt_number ReceiptIs.Delivered = (0, lit< tt, refl)
+receipt_number ReceiptIs.TimedOut = (2, lit< tt, refl)
+receipt_number ReceiptIs.Waits = (2, lit< tt, refl)
 
 pub answerable-send : {E P : Type 0} (engines : Meaning E P) (setting : Setting P) (w : World) (worker pid : ℕ) (seat : Seat E) (calls : List Call) (request : Request) (side : Side) (outcome : Post) → request.ask.call ≡ 8 → TurnFits engines setting w worker pid seat calls (Asks request) side → IsAnswerable (engines.phase seat.engine) (engines.memory seat.engine) (number_reply (code_of outcome))
 answerable-send engines setting w worker pid seat calls request side outcome call fits =
-    answerable engines setting w worker pid seat calls request side (code_of outcome) fits (subst (λ (k : ℕ). IsResult (results_of k) (Some (code_of outcome))) (sym call) (post_result outcome))
+    answerable engines setting w worker pid seat calls request side (code_of outcome) fits
+    (number_form request.ask (0 ∷ 1 ∷ 2 ∷ 12 ∷ []) (code_of outcome) (rw call send-results) (rw call (text_by 8 send send-row)) (rw call (word_by 8 send send-row)) (post_number outcome))
 
 pub answerable-receive : {E P : Type 0} (engines : Meaning E P) (setting : Setting P) (w : World) (worker pid : ℕ) (seat : Seat E) (calls : List Call) (request : Request) (side : Side) (receipt : Receipt) → request.ask.call ≡ 9 → TurnFits engines setting w worker pid seat calls (Asks request) side → IsAnswerable (engines.phase seat.engine) (engines.memory seat.engine) (number_reply (receipt_code receipt))
 answerable-receive engines setting w worker pid seat calls request side receipt call fits =
-    answerable engines setting w worker pid seat calls request side (receipt_code receipt) fits (subst (λ (k : ℕ). IsResult (results_of k) (Some (receipt_code receipt))) (sym call) (receipt_result receipt))
+    answerable engines setting w worker pid seat calls request side (receipt_code receipt) fits
+    (number_form request.ask (0 ∷ 1 ∷ 9027 ∷ []) (receipt_code receipt) (rw call receive-results) (rw call (text_by 9 receive receive-row)) (rw call (word_by 9 receive receive-row)) (receipt_number receipt))

@@ -18,15 +18,14 @@ pub record Meaning (E P : Type 0) : Type 1 where
 abbrev pub meaning : {E P : Type 0} → (E → P → Start → List Call → ℕ → Type 0) → (E → Phase) → (E → List ℕ) → Meaning E P
 meaning stands phase memory = record { stands = stands; phase = phase; memory = memory }
 
--- what is kept of a process: its engine, how it was started, the message of its scratch area, and the instructions that it
--- has executed
+-- what is kept of a process: its engine, how it was started, the message of its scratch area, and the fuel that it has burnt
 pub record Seat (E : Type 0) : Type 0 where
   pub engine : E
   pub start : Start
   pub scratch : Option Message
   pub fuel : ℕ
 
--- the engine stands for these calls and this many instructions of the process, over the program that its start names
+-- the engine stands for these calls and this much fuel of the process, over the program that its start names
 abbrev pub StandsAt : {E P : Type 0} → Meaning E P → List P → Process → E → List Call → ℕ → Type 0
 StandsAt {P = P} engines programs p engine calls fuel =
     (program : P) → slice_get programs p.start.«module» ≡ Some program → engines.stands engine program p.start calls fuel
