@@ -28,6 +28,10 @@ some_is x y e = cc
 pub program-is : {P A : Type 0} (value : A → P) (xs : List A) (k : ℕ) (x : A) (p : P) → k < length xs → x ≡ get_or xs k x → slice_get (map value xs) k ≡ Some p → value x ≡ p
 program-is value xs k x p h e s = some_is (value x) p (sym (program-at value xs k x h e) ∙ s)
 
+-- the program of that number begins so as the one that was found there does
+pub begins-same : {P A : Type 0} (value : A → P) (begin : P → Start → Option StartRefusal) (xs : List A) (start : Start) (x : A) (p : P) → start.«module» < length xs → x ≡ get_or xs start.«module» x → begin (value x) start ≡ None → slice_get (map value xs) start.«module» ≡ Some p → begin p start ≡ None
+begins-same value begin xs start x p h e none s = subst (λ q. begin q start ≡ None) (program-is value xs start.«module» x p h e s) none
+
 seats_past : {E O P S L : Type 0} (home : Option (Proc E O P S L)) (q : ℕ) → q ≢ 1 → seat_in (slice_get (None ∷ home ∷ []) q) ≡ None
 seats_past home zero other = refl
 seats_past home (suc zero) other = absurd (other refl)

@@ -6,6 +6,8 @@ use Rattle.host_port.specs.declared.request.Request.{Request}
 use Rattle.host_port.specs.declared.start.Start.{Start}
 use Rattle.host_port.specs.declared.start.StartRefusal.{StartRefusal}
 use Rattle.host_port.specs.Standing.{Standing}
+use Rattle.host_port.specs.HostTable.{is_local, may_come_of}
+use Rattle.host_port.specs.declared.row.MayCome.TheVariants as beside
 use Rattle.journal.specs.declared.entry.Entry.TheVariants.{Give}
 use Rattle.journal.specs.declared.entry.Side.{Side}
 use Rattle.journal.specs.declared.entry.Side.TheVariants as SideIs
@@ -18,7 +20,7 @@ use Rattle.journal.specs.Allowed.{SideFits}
 use Rattle.journal.specs.Book.{Book, AddsEntry}
 use Rattle.journal.specs.Mail.{Message, MailItem, tags_in}
 use Rattle.journal.specs.declared.halt.HostFault.TheVariants.{BadPointer}
-use Rattle.journal.specs.World.{World, Process}
+use Rattle.journal.specs.World.{World, Process, Stage}
 use Rattle.journal.specs.Judge.{Judgement, Fit, Faulty, needs_message, own_judgement, part_after, number_reply}
 use Rattle.journal.specs.Runs.{told}
 use Rattle.journal.specs.Lives.{Setting}
@@ -36,6 +38,7 @@ use Rattle.process_table.specs.declared.message.Letter.{Letter}
 use Rattle.process_table.specs.Seen.{seen, setting_of}
 use Rattle.process_table.specs.Holds.{Keeps, held_of, seat_of, mail_in, letter_of}
 use Rattle.process_table.specs.Takes.{RecordsGive}
+use Rattle.process_table.proofs.ServedCalls.{send_calls}
 use Rattle.process_table.proofs.Holding.{changes-both, keeps-parts}
 use Rattle.process_table.proofs.Taking.{records-alone}
 use Rattle.process_table.proofs.EndingAll.{boxes-set}
@@ -157,20 +160,14 @@ sender-has engines setting w worker pid seat calls request side fits call =
 
 -- THE DISPATCH of a give.
 
-none_else : (side : Side) → side ≢ SideIs.NoMemory → ((now : ℕ) → side ≢ SideIs.Clock now) → side ≡ SideIs.Nothing
-none_else SideIs.Nothing refusal clock = refl
-none_else (SideIs.Clock now) refusal clock = absurd (clock now refl)
-none_else SideIs.NoMemory refusal clock = absurd (refusal refl)
+beside_other : (processes : ℕ → Process) (stage : Stage) (request : Request) (side : Side) → may_come_of request.ask.call ≢ Some beside.Clock → is_local request.ask.call ≡ false → side ≢ SideIs.NoMemory → SideFits processes stage request side → (side ≡ SideIs.Nothing) × (request.ask.call ≡ 8)
+beside_other processes stage request SideIs.Nothing other foreign unrefused fits = (refl, send_calls request.ask.call foreign fits)
+beside_other processes stage request (SideIs.Clock now) other foreign unrefused fits = absurd (other fits)
+beside_other processes stage request SideIs.NoMemory other foreign unrefused fits = absurd (unrefused refl)
 
--- a request without a clock is a send, and nothing came with it
-pub send-side : {E P : Type 0} {engines : Meaning E P} {setting : Setting P} (w : World) (worker pid : ℕ) (seat : Seat E) (calls : List Call) (request : Request) (side : Side) → TurnFits engines setting w worker pid seat calls (Asks request) side → ((now : ℕ) → side ≢ SideIs.Clock now) → (side ≡ SideIs.Nothing) × (request.ask.call ≡ 8)
-send-side w worker pid seat calls request side fits clock =
-    let none : side ≡ SideIs.Nothing = none_else side fits.asked clock in
-    (none, subst (λ (s : Side). SideFits w.process (w.process pid).stage request s) none fits.allowed.halted.2)
-
--- a request with a clock is a receive
-pub receive-call : {E P : Type 0} {engines : Meaning E P} {setting : Setting P} (w : World) (worker pid : ℕ) (seat : Seat E) (calls : List Call) (request : Request) (side : Side) (now : ℕ) → TurnFits engines setting w worker pid seat calls (Asks request) side → side ≡ SideIs.Clock now → request.ask.call ≡ 9
-receive-call w worker pid seat calls request side now fits is = subst (λ (s : Side). SideFits w.process (w.process pid).stage request s) is fits.allowed.halted.2
+-- a request beside which the clock does not come is a send, and nothing came with it
+pub send_side : {E P : Type 0} {engines : Meaning E P} {setting : Setting P} (w : World) (worker pid : ℕ) (seat : Seat E) (calls : List Call) (request : Request) (side : Side) → TurnFits engines setting w worker pid seat calls (Asks request) side → may_come_of request.ask.call ≢ Some beside.Clock → (side ≡ SideIs.Nothing) × (request.ask.call ≡ 8)
+send_side w worker pid seat calls request side fits other = beside_other w.process (w.process pid).stage request side other fits.allowed.halted.0 fits.asked fits.allowed.halted.2
 
 -- every other halt but the end of a slice brings an end, and nothing came with it
 pub end-side : {E P : Type 0} {engines : Meaning E P} {setting : Setting P} (w : World) (worker pid : ℕ) (seat : Seat E) (calls : List Call) (halt : Halt) (side : Side) → TurnFits engines setting w worker pid seat calls halt side → halt ≢ HaltIs.Slice → ((request : Request) → halt ≢ Asks request) → (side ≡ SideIs.Nothing) × ((end : End) × (end_of halt ≡ Some end))

@@ -8,3 +8,4 @@ pub mod Beginning
 pub mod Giving
 pub mod GivingRequests
 pub mod Scripts
+pub mod ServedCalls

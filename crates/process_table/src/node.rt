@@ -117,7 +117,8 @@ impl<E: Engine, O: Outside> Node<E, O> {
     /// `idle` are the terms of its run: how many processes may live at once, and how long it may be
     /// idle.
     ///
-    /// It is refused with what the program's begin says, or for want of memory.
+    /// It is refused with what the program's begin says, or for want of memory, and then the begin
+    /// refuses nothing.
     pub fn new(
         alloc: Global,
         programs: Vec<Arc<E::Program>>,
@@ -135,6 +136,8 @@ impl<E: Engine, O: Outside> Node<E, O> {
         ensures run { IfOk result (λ node. IsRun (setting_of E.begin E.at node) node.book) }
         ensures refused { IfErr result (λ why. why ≢ NoMemoryLeft → (program : E.Program) →
             slice_get (map arc_value programs.items) start.module ≡ Some program → E.begin program start ≡ Some why) }
+        ensures wants { IfErr result (λ why. why ≡ NoMemoryLeft → (program : E.Program) →
+            slice_get (map arc_value programs.items) start.module ≡ Some program → E.begin program start ≡ None) }
     {
         let engine = E::start(alloc, &programs[start.module as usize], &start)?;
         let Ok(journal) = first_journal(alloc, &start) else {

@@ -13,7 +13,7 @@ pub struct Proc<E: Engine, O: Outside> {
     pub start: Start,
     /// The message of its scratch area, if there is one.
     pub scratch: Option<Message>,
-    /// The instructions that it has executed since its birth.
+    /// The fuel that it has burnt since its birth.
     pub fuel: u64,
     /// The outside whose streams it may hold.
     pub of: PhantomData<O>,

@@ -6,10 +6,12 @@ use Rattle.host_port.specs.declared.request.Request.{Request}
 use Rattle.host_port.specs.declared.start.Start.{Start}
 use Rattle.host_port.specs.Standing.{Standing, Phase, Owing}
 use Rattle.host_port.specs.Steps.{IsAnswerable}
-use Rattle.host_port.proofs.HostLaws.{create_data-areas, create_data-results, process_id-areas, process_id-results, no_areas-fit}
+use Rattle.host_port.specs.HostTable.{create_data, process_id}
+use Rattle.host_port.proofs.HostLaws.{create_data-row, create_data-areas, create_data-results, process_id-row, process_id-areas, process_id-results, text_by, word_by, no_areas-fit}
 use Rattle.journal.specs.declared.halt.HostFault.TheVariants.{BadPointer}
 use Rattle.journal.specs.Part.{Part}
 use Rattle.journal.specs.Judge.{Judgement, Fit, Faulty, is_local, local_reply}
+use Rattle.process_table.proofs.ServedCalls.{local_calls}
 
 -- Which asks may be answered.
 
@@ -22,20 +24,6 @@ fit_fits false own fit = absurd (cc)
 pub is_there : (standing : Option Standing) (here : Standing) → standing ≡ Some here → IsSome standing
 is_there standing here is = rw is refl
 
-by_call : (call : ℕ) → ((nat_eq 0 call ≡ true) × (0 ≡ call)) ⊎ ((nat_eq 0 call ≡ false) × (0 ≢ call)) →
-    ((nat_eq 10 call ≡ true) × (10 ≡ call)) ⊎ ((nat_eq 10 call ≡ false) × (10 ≢ call)) →
-    ((nat_eq 8 call ≡ true) × (8 ≡ call)) ⊎ ((nat_eq 8 call ≡ false) × (8 ≢ call)) →
-    ((nat_eq 9 call ≡ true) × (9 ≡ call)) ⊎ ((nat_eq 9 call ≡ false) × (9 ≢ call)) → is_local call ≡ true → (call ≡ 0) ⊎ (call ≡ 10)
-by_call call (inl zero) b c d own = inl (sym zero.1)
-by_call call (inr a) (inl ten) c d own = inr (sym ten.1)
-by_call call (inr a) (inr b) (inl eight) d own = let own' = rw (← eight.1) at own in absurd (cc)
-by_call call (inr a) (inr b) (inr c) (inl nine) own = let own' = rw (← nine.1) at own in absurd (cc)
-by_call call (inr a) (inr b) (inr c) (inr d) own = let own' = rw (a.0, c.0, d.0, b.0) at own in absurd (cc)
-
--- the local calls
-pub local_calls : (call : ℕ) → is_local call ≡ true → (call ≡ 0) ⊎ (call ≡ 10)
-local_calls call own = by_call call (eqb_tells 0 call) (eqb_tells 10 call) (eqb_tells 8 call) (eqb_tells 9 call) own
-
 by_local : (phase : Phase) (memory : List ℕ) (ask : Ask) (pid : ℕ) (start : Start) (part : Part) (request : Request) (reply : Reply) →
     phase ≡ Owing ask → (ask.call ≡ 0) ⊎ (ask.call ≡ 10) → pid < 2 ^ 64 → start.pid ≡ pid → request.ask ≡ ask →
     reply ≡ local_reply start part request → IsAnswerable phase memory reply
@@ -43,13 +31,27 @@ by_local phase memory ask pid start part request reply owed (inl zero) small own
   ask = ask;
   owed = owed;
   fits = no_areas-fit memory ask (create_data-areas ask zero);
-  form = rw (replied, asked, zero) (record { result = rw create_data-results refl; writes = record { no_word = refl; no_text = refl } });
+  form = rw (replied, asked, zero) (record {
+    result = rw create_data-results refl;
+    count = rw create_data-results tt;
+    writes = record {
+      text_is = rw (text_by 0 create_data create_data-row) refl;
+      word_is = rw (word_by 0 create_data create_data-row) refl;
+    };
+  });
 }
 by_local phase memory ask pid start part request reply owed (inr ten) small own asked replied = record {
   ask = ask;
   owed = owed;
   fits = no_areas-fit memory ask (process_id-areas ask ten);
-  form = rw (replied, asked, ten) (record { result = rw (process_id-results, own) small; writes = record { no_word = refl; no_text = refl } });
+  form = rw (replied, asked, ten) (record {
+    result = rw (process_id-results, own) small;
+    count = rw process_id-results tt;
+    writes = record {
+      text_is = rw (text_by 10 process_id process_id-row) refl;
+      word_is = rw (word_by 10 process_id process_id-row) refl;
+    };
+  });
 }
 
 -- a local call's reply may be given

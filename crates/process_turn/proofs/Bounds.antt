@@ -1,4 +1,4 @@
-use Rattle.std.proofs.Common.{◌≡◌, ◌≢◌, ℕ, ◌+◌, ◌-◌, ◌≤◌, List, ◌++◌, length, Option, Some, None, refl, ◌∙◌, arith, add-zero, inl, inr}
+use Rattle.std.proofs.Common.{◌≡◌, ◌≢◌, ℕ, ◌+◌, ◌-◌, ◌≤◌, List, ◌++◌, length, Option, Some, None, IsSome, refl, ◌∙◌, arith, add-zero, inl, inr}
 use Rattle.std.proofs.lemmas.Bool.{cases_lt}
 use Rattle.host_port.specs.declared.ask.Ask.{Ask}
 use Rattle.host_port.specs.declared.call.Call.{Call}
@@ -10,7 +10,7 @@ use Rattle.host_port.specs.declared.stop.Stop.TheVariants as stop
 use Rattle.host_port.specs.declared.stop.Spent.TheVariants as limit
 use Rattle.host_port.specs.Standing.{Standing, State, Ready, Asking, Finished, Trapped, Exhausted, state_of, IsAtEnd, MayStep, Running, phase_after}
 use Rattle.host_port.specs.Steps.{IsStep, StopsSo}
-use Rattle.host_port.specs.Turn.{Sliced, EndsSo, IsUsedUp}
+use Rattle.turn_rules.specs.Turn.{Sliced, EndsSo, IsUsedUp}
 use Rattle.journal.specs.declared.halt.Halt.TheVariants as HaltIs
 use Rattle.journal.specs.World.{Process}
 use Rattle.journal.specs.Judge.{local, part_after}
@@ -50,9 +50,13 @@ ready_of (Some Finished) may not_end = absurd (not_end tt)
 ready_of (Some (Trapped t)) may not_end = absurd may
 ready_of (Some (Exhausted s)) may not_end = absurd (not_end may)
 
+stands_at_end : (standing : Option Standing) → IsAtEnd (state_of standing) → IsSome standing
+stands_at_end None ends = absurd ends
+stands_at_end (Some standing) ends = refl
+
 none_executed : (at : ℕ → Option Standing) (most fuel budget n : ℕ) (reason : Stop) → IsStep at most fuel budget reason n → IsAtEnd (state_of (at fuel)) → n ≡ 0
 none_executed at most fuel budget n reason step ends = elim (cases_lt 0 n) as (λ _. n ≡ 0) [
-  | inl some ↦ absurd (not_ready (state_of (at fuel)) ends (rw add-zero at (step.ready 0 some)))
+  | inl some ↦ let ready : IsSome (at fuel) → state_of (at fuel) ≡ Some Ready = rw add-zero at (step.ready 0 some) in absurd (not_ready (state_of (at fuel)) ends (ready (stands_at_end (at fuel) ends)))
   | inr below ↦ omega arith
 ]
 

@@ -16,22 +16,10 @@ use Rattle.journal.specs.Judge.{is_local}
 use Rattle.journal.specs.Allowed.{HaltFits, SideFits}
 use Rattle.world_laws.specs.Seats.{Meaning, Seat}
 use Rattle.process_table.specs.Rows.{HasRows}
+use Rattle.process_table.proofs.ServedCalls.{nothing_comes}
 use Rattle.process_turn.specs.Brings.{IsAt, HasEnded, IsSideOf, MayBeGiven}
 
 -- What is brought back may be given.
-
-by_call : (call : ℕ) → ((nat_eq 0 call ≡ true) × (0 ≡ call)) ⊎ ((nat_eq 0 call ≡ false) × (0 ≢ call)) →
-    ((nat_eq 8 call ≡ true) × (8 ≡ call)) ⊎ ((nat_eq 8 call ≡ false) × (8 ≢ call)) →
-    ((nat_eq 10 call ≡ true) × (10 ≡ call)) ⊎ ((nat_eq 10 call ≡ false) × (10 ≢ call)) →
-    nat_eq 9 call ≡ false → is_local call ≡ false → IsSome (row_of call) → call ≡ 8
-by_call call (inl a) b c nine foreign row = let f = rw (← a.1) at foreign in absurd (cc)
-by_call call (inr a) (inl b) c nine foreign row = sym b.1
-by_call call (inr a) (inr b) (inl c) nine foreign row = let f = rw (← c.1) at foreign in absurd (cc)
-by_call call (inr a) (inr b) (inr c) nine foreign row = let r = rw (a.0, b.0, nine, c.0) at row in absurd (cc)
-
--- a call of the world with a row that isn't receive is send
-is_send : (call : ℕ) → call ≢ 9 → is_local call ≡ false → IsSome (row_of call) → call ≡ 8
-is_send call other foreign row = by_call call (eqb_tells 0 call) (eqb_tells 8 call) (eqb_tells 10 call) (grind (arith, nat_tests)) foreign row
 
 side_told : (clock : Option ℕ) (halt : Halt) (side : Side) → IsSideOf clock halt side → side ≢ SideIs.NoMemory
 side_told clock HaltIs.Slice side is no' = let x = is in cc
@@ -45,7 +33,7 @@ side_told clock (HaltIs.Host fault request) side is no' = let x = is in cc
 side_told clock HaltIs.NoMemory side is no' = let x = is in cc
 
 side_fits : (clock : Option ℕ) (processes : ℕ → Process) (stage : _) (request : Request) (side : Side) → IsSideOf clock (HaltIs.Asks request) side → is_local request.ask.call ≡ false → IsSome (row_of request.ask.call) → SideFits processes stage request side
-side_fits clock processes stage request SideIs.Nothing is foreign row = is_send request.ask.call is foreign row
+side_fits clock processes stage request SideIs.Nothing is foreign row = nothing_comes request.ask.call row is
 side_fits clock processes stage request (SideIs.Clock now) is foreign row = is.0
 side_fits clock processes stage request SideIs.NoMemory is foreign row = absurd is
 

@@ -1,4 +1,3 @@
-pub mod Requests
 pub mod Turns
 pub mod Asked
 pub mod Bounds

@@ -9,9 +9,9 @@ use Rattle.host_port.specs.declared.stop.Stop.TheVariants as stop
 use Rattle.host_port.specs.Standing.{Standing, state_of, Owing, phase_after}
 use Rattle.host_port.specs.Steps.{IsStep, StopsSo}
 use Rattle.host_port.specs.Areas.{request_of}
-use Rattle.host_port.specs.Turn.{Ending, Sliced, Meets, Returns, Traps, Exceeds, Requests, GoesOn, EndsSo, IsTurn, IsCutShort}
-use Rattle.host_port.proofs.StepLaws.{IsStep-executes, spent-ends}
-use Rattle.host_port.proofs.TurnLaws.{GoesOn-executes, GoesOn-answers}
+use Rattle.turn_rules.specs.Turn.{Ending, Sliced, Meets, Returns, Traps, Exceeds, Requests, GoesOn, EndsSo, IsTurn, IsCutShort}
+use Rattle.turn_rules.proofs.StepLaws.{IsStep-executes, spent-ends}
+use Rattle.turn_rules.proofs.TurnLaws.{GoesOn-executes, GoesOn-answers}
 use Rattle.journal.specs.declared.halt.Halt.TheVariants as HaltIs
 use Rattle.journal.specs.declared.halt.HostFault.{HostFault}
 use Rattle.journal.specs.World.{Process}
@@ -77,7 +77,7 @@ stop_ends : {Part : Type 0} (host : Part → Request → Option (Reply × Part))
     StopsSo reason (state_of standing) m most n (10000 - before) → EndsSo host (ending_of reason memory) standing part m most (before + n) answers
 unfolding ending_of
 stop_ends host standing part memory m most before n answers stop.Slice other little within few stops =
-    let full : n ≡ 10000 - before = stops.1 in
+    let full : 10000 - before < n + 1 = stops.1 in
     (stops.0, inl (omega arith))
 stop_ends host standing part memory m most before n answers (stop.Asks ask) other little within few stops = absurd (other ask refl)
 stop_ends host standing part memory m most before n answers stop.Done other little within few stops = stops

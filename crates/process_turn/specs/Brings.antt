@@ -2,9 +2,10 @@ use Rattle.std.specs.Prelude.{◌≡◌, ◌≢◌, ℕ, ◌+◌, ◌-◌, ◌�
 use Rattle.host_port.specs.declared.call.Call.{Call}
 use Rattle.host_port.specs.declared.start.Start.{Start}
 use Rattle.host_port.specs.declared.start.StartRefusal.{StartRefusal}
-use Rattle.host_port.specs.HostTable.{receive}
+use Rattle.host_port.specs.HostTable.{may_come_of}
+use Rattle.host_port.specs.declared.row.MayCome.TheVariants.{Clock}
 use Rattle.host_port.specs.Standing.{Standing, Phase, Running}
-use Rattle.host_port.specs.Turn.{GoesOn, most_instructions, most_answers}
+use Rattle.turn_rules.specs.Turn.{GoesOn, turn_fuel, most_answers}
 use Rattle.host_port.specs.declared.stop.Stop.{Stop}
 use Rattle.host_port.specs.declared.stop.Stop.TheVariants as stop
 use Rattle.journal.specs.declared.entry.Side.{Side}
@@ -41,7 +42,7 @@ pub record HasGone {E P : Type 0} (engines : Meaning E P) (program : P) (p : Pro
   pub start : seat.start ≡ p.start
   pub scratch : seat.scratch ≡ (part_after p.start p.part further).scratch
   pub grown : p.fuel ≤ seat.fuel
-  pub executed : seat.fuel ≤ p.fuel + most_instructions
+  pub executed : seat.fuel ≤ p.fuel + turn_fuel
   pub local : AreLocal p.start p.part further
 
 -- the turn of the process has gone on by these local calls, and is not at its end
@@ -75,12 +76,12 @@ halt_after stop.Done = HaltIs.Done
 halt_after (stop.Trap trap) = HaltIs.Trap trap
 halt_after (stop.Spent spent) = HaltIs.Spent spent
 
--- The clock was asked exactly for a receive: then the halt comes with a time, which is the one that the clock tells, where it
+-- The clock was asked exactly for a call beside which it comes, by its row: then the halt comes with a time, which is the one that the clock tells, where it
 -- tells one. With any other halt comes nothing.
 abbrev pub IsSideOf : (clock : Option ℕ) → Halt → Side → Type 0
 IsSideOf clock HaltIs.Slice side = side ≡ SideIs.Nothing
-IsSideOf clock (HaltIs.Asks request) SideIs.Nothing = request.ask.call ≢ receive.call
-IsSideOf clock (HaltIs.Asks request) (SideIs.Clock now) = (request.ask.call ≡ receive.call) × IfSome clock (λ time. now ≡ time)
+IsSideOf clock (HaltIs.Asks request) SideIs.Nothing = may_come_of request.ask.call ≢ Some Clock
+IsSideOf clock (HaltIs.Asks request) (SideIs.Clock now) = (may_come_of request.ask.call ≡ Some Clock) × IfSome clock (λ time. now ≡ time)
 IsSideOf clock (HaltIs.Asks request) SideIs.NoMemory = ⊥
 IsSideOf clock HaltIs.Done side = side ≡ SideIs.Nothing
 IsSideOf clock (HaltIs.Trap trap) side = side ≡ SideIs.Nothing

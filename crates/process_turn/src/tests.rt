@@ -1,6 +1,5 @@
-ghost use Rattle.std.specs.Prelude.{◌≡◌, IfOk, IsTrue, is_some, true};
-ghost use Rattle.std.specs.List.{list_all};
-ghost use Rattle.host_port.specs.HostTable.{row_of};
+ghost use Rattle.std.specs.Prelude.{◌≡◌, IfOk, IsTrue, true};
+ghost use Rattle.process_table.specs.Rows.{are_served};
 ghost use Rattle.journal.specs.Report.{IsReportable};
 ghost use Rattle.process_table.specs.Seen.{world_of};
 
@@ -48,7 +47,7 @@ fn first_start(alloc: Global) -> Start
 
 /// A node whose process 1 asks these, and returns.
 fn node_of(alloc: Global, asks: Vec<Ask>) -> Result<Node<ScriptEngine, MemOutside>, Fail>
-    requires { IsTrue (list_all (λ ask. is_some (row_of ask.call)) asks.items) }
+    requires { IsTrue (are_served asks.items) }
 {
     let mut programs = Vec::new(alloc);
     programs.push(Arc::new(alloc, Script { asks, end: None })?)?;
@@ -235,7 +234,7 @@ fn a_process_sends_to_itself(rt: HostRuntime) -> Result<(), Fail> {
     let creation = ask(0, 5, 0, 0);
     let send = ask(8, 1, 0, 0);
     let mut node = node_of(alloc, vec![in alloc; identity, creation, send, receive()]?)?;
-    let mut outside = MemOutside::new();
+    let mut outside = MemOutside::with_nothing(alloc);
     assert!(rt; matches!(round(alloc, &mut node, 0, &mut outside)?, Outcome::Turned));
     assert!(rt; matches!(round(alloc, &mut node, 0, &mut outside)?, Outcome::Turned));
     assert!(rt; matches!(round(alloc, &mut node, 0, &mut outside)?, Outcome::Turned));
@@ -260,7 +259,7 @@ fn a_process_sends_to_itself(rt: HostRuntime) -> Result<(), Fail> {
 fn a_process_that_waits_alone_is_stalled(rt: HostRuntime) -> Result<(), Fail> {
     let alloc = rt.alloc();
     let mut node = node_of(alloc, vec![in alloc; receive()]?)?;
-    let mut outside = MemOutside::new();
+    let mut outside = MemOutside::with_nothing(alloc);
     assert!(rt; matches!(round(alloc, &mut node, 0, &mut outside)?, Outcome::Turned));
     let journal = closed(alloc, node, &mut outside)?;
     assert_eq!(rt; journal.len(), 3);
@@ -280,7 +279,7 @@ fn a_process_that_waits_alone_is_stalled(rt: HostRuntime) -> Result<(), Fail> {
 fn a_process_is_doomed_while_it_is_out(rt: HostRuntime) -> Result<(), Fail> {
     let alloc = rt.alloc();
     let mut node = node_of(alloc, vec![in alloc; receive()]?)?;
-    let mut outside = MemOutside::new();
+    let mut outside = MemOutside::with_nothing(alloc);
     outside.rest();
     assert!(rt;
         matches!(

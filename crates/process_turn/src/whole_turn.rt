@@ -2,26 +2,22 @@ ghost use Rattle.std.specs.Prelude.{◌≡◌, ◌≢◌, ℕ, ◌+◌, ◌<◌,
 ghost use Rattle.host_port.specs.declared.stop.Stop.TheVariants.{Asks as AsksFor};
 ghost use Rattle.host_port.specs.declared.ask.Ask.{Ask as TheAsk};
 ghost use Rattle.host_port.specs.Standing.{Running, Owing};
-ghost use Rattle.host_port.specs.Turn.{IsUsedUp};
+ghost use Rattle.turn_rules.specs.Turn.{IsUsedUp};
 ghost use Rattle.host_port.specs.declared.call.Call.{Call as TheCall};
 ghost use Rattle.journal.specs.World.{Process};
 ghost use Rattle.world_laws.specs.Seats.{meaning};
 ghost use Rattle.process_table.specs.Holds.{seat_of};
 ghost use Rattle.process_turn.specs.Brings.{IsUnderWay, IsAt, GoesTo, HasEnded, IsSideOf, MayBeGiven, OutsideKeeps, telling, halt_after};
 
-use crate::answer::{is_local_call, judged, reply_to, scratch_after};
-use crate::resolve::resolve;
-use host_port::{Ask, Call, Calls, Engine, Stop};
+use crate::answer::{judged, reply_to, scratch_after};
+use host_port::{Ask, Call, Calls, Engine, Stop, is_local, resolve};
 use journal::{Halt, Side};
 use outside::Outside;
-use process_table::{Proc, Turn};
+use process_table::{Proc, Turn, comes_with_clock};
 use std::alloc::Global;
 
-/// The most instructions of a turn.
-const MOST_INSTRUCTIONS: u64 = 10_000;
-
-/// The number of the call receive, for which the clock is asked.
-const RECEIVE: u8 = 9;
+/// The most fuel that a turn burns.
+const TURN_FUEL: u64 = 10_000;
 
 /// The halt of a step that stopped at no ask.
 fn halt_of(stop: Stop) -> Halt
@@ -37,7 +33,7 @@ fn halt_of(stop: Stop) -> Halt
     }
 }
 
-/// The fuel after so many instructions, which is at most `_most` and so is no larger than a `u64`.
+/// The fuel after so much more, which is at most `_most` and so is no larger than a `u64`.
 fn fuel_after(fuel: u64, executed: u64, _most: u64) -> u64
     requires { fuel + executed ≤ _most }
     ensures { result ≡ fuel + executed }
@@ -69,7 +65,7 @@ fn meet<E: Engine, O: Outside>(
     if let Some(fault) = judged(proc.scratch.is_some(), &request) {
         return Some(Halt::Host(fault, request));
     }
-    if !is_local_call(ask.call) {
+    if !is_local(ask.call) {
         return Some(Halt::Asks(request));
     }
     let reply = reply_to(proc.start.pid, &request);
@@ -87,7 +83,7 @@ fn meet<E: Engine, O: Outside>(
     None
 }
 
-/// Executes at most `budget` instructions, and meets the ask that comes, if one does.
+/// Burns at most `budget` of fuel, and meets the ask that comes, if one does.
 fn go_on<E: Engine, O: Outside>(
     alloc: Global,
     proc: &mut Proc<E, O>,
@@ -143,26 +139,28 @@ fn run<E: Engine, O: Outside>(alloc: Global, proc: &mut Proc<E, O>, calls: &mut 
     let begun = proc.fuel;
     for answered in 0..64u64 {
         let used = proc.fuel - begun;
-        if used == MOST_INSTRUCTIONS {
+        if used == TURN_FUEL {
             break;
         }
-        if let Some(halt) = go_on(alloc, proc, calls, MOST_INSTRUCTIONS - used) {
+        if let Some(halt) = go_on(alloc, proc, calls, TURN_FUEL - used) {
             return halt;
         }
     }
     end_at_bound(proc)
 }
 
-/// What comes from outside with a halt: the time with a receive, else nothing.
+/// What comes from outside with a halt: the time with a call beside which the clock comes, else
+/// nothing.
 fn side_of<O: Outside>(halt: &Halt, outside: &mut O) -> Side
     ensures side { IsSideOf (O.clock outside.old) halt.now result }
     ensures outside { OutsideKeeps
         (telling (O.faults outside.old) (O.waits outside.old) (O.rests outside.old) (O.clock outside.old))
         (telling (O.faults outside.new) (O.waits outside.new) (O.rests outside.new) (O.clock outside.new)) }
+    ensures entered { O.entered outside.new ≡ O.entered outside.old }
 {
     match halt {
         Halt::Asks(request) => {
-            if request.ask.call == RECEIVE {
+            if comes_with_clock(request.ask.call) {
                 Side::Clock(outside.now())
             } else {
                 Side::Nothing
@@ -172,7 +170,7 @@ fn side_of<O: Outside>(halt: &Halt, outside: &mut O) -> Side
     }
 }
 
-/// Runs the turn of a process: at most 10,000 instructions and 64 local calls.
+/// Runs the turn of a process: at most 10,000 of fuel and 64 local calls.
 ///
 /// It is never refused. Where the machine refuses memory, the turn is cut short at the ask that
 /// needed it, and its halt says so. What it brings back, `Node::give` takes. The outside is asked
@@ -188,6 +186,7 @@ pub fn turn<E: Engine, O: Outside>(
     ensures outside { OutsideKeeps
         (telling (O.faults outside.old) (O.waits outside.old) (O.rests outside.old) (O.clock outside.old))
         (telling (O.faults outside.new) (O.waits outside.new) (O.rests outside.new) (O.clock outside.new)) }
+    ensures entered { O.entered outside.new ≡ O.entered outside.old }
     ensures ends { (program : E.Program) (p : Process) →
         IsAt (meaning E.stands E.phase E.memory) program p (seat_of proc) →
         HasEnded (meaning E.stands E.phase E.memory) E.at program p (seat_of result.proc) result.calls result.halt }

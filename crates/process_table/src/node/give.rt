@@ -13,7 +13,7 @@ ghost use Rattle.process_table.specs.Takes.{SameTerms, RecordsGive};
 
 use super::Node;
 use crate::mailbox::{put_message, take_wanted};
-use crate::{Proc, Turn};
+use crate::{Proc, Turn, comes_with_clock};
 use host_port::{Calls, Engine, Reply, Request};
 use journal::{Ended, Entry, Halt, Side};
 use outside::Outside;
@@ -263,6 +263,32 @@ impl<E: Engine, O: Outside> Node<E, O> {
         self.ready.push_back_reserved(pid);
     }
 
+    /// Takes back a process that asks for a call of the world: which one, the row of its call
+    /// says.
+    fn give_request(
+        &mut self,
+        worker: u8,
+        proc: Proc<E, O>,
+        calls: Calls,
+        request: Request,
+        side: Side,
+    )
+        requires going { (world_of self.old).over ≡ false }
+        requires fits { TurnFits (meaning E.stands E.phase E.memory) (setting_of E.begin E.at self.old) (world_of self.old)
+            worker proc.start.pid (seat_of proc) calls (Asks request) side }
+        ensures same { SameTerms self.old self.new }
+        ensures given { RecordsGive self.old.book self.new.book worker proc.start.pid calls proc.fuel (Asks request) side }
+        ensures run { IsRun (setting_of E.begin E.at self.new) self.new.book }
+    {
+        if !comes_with_clock(request.ask.call) {
+            return self.give_send(worker, proc, calls, request);
+        }
+        match side {
+            Side::Clock(now) => self.give_receive(worker, proc, calls, request, now),
+            _ => unreachable!(),
+        }
+    }
+
     /// Takes back what a worker's turn made of a process, and records it. The turn must fit the
     /// world; then it cannot be refused: where a send would need memory that is refused, it is
     /// answered 12.
@@ -284,10 +310,7 @@ impl<E: Engine, O: Outside> Node<E, O> {
         }
         match halt {
             Halt::Slice => self.give_slice(worker, proc, calls),
-            Halt::Asks(request) => match side {
-                Side::Clock(now) => self.give_receive(worker, proc, calls, request, now),
-                _ => self.give_send(worker, proc, calls, request),
-            },
+            Halt::Asks(request) => self.give_request(worker, proc, calls, request, side),
             other => self.give_end(worker, proc, calls, other),
         }
     }

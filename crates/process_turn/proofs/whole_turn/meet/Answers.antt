@@ -1,5 +1,5 @@
 use Rattle.std.proofs.Common.{◌≡◌, [], ◌∷◌, ◌++◌, refl, sym, ap, subst, ◌∙◌}
-use Rattle.host_port.proofs.StepLaws.{asking-requests}
+use Rattle.turn_rules.proofs.StepLaws.{asking-requests}
 use Rattle.host_port.specs.Areas.{request_of}
 use Rattle.journal.specs.Judge.{own_judgement, part_after}
 use Rattle.std.proofs.Common.{rules, slice_index}
@@ -7,7 +7,7 @@ use Rattle.host_port.specs.declared.start.Start.{Start}
 use Rattle.host_port.specs.declared.ask.Ask.{Ask}
 use Rattle.journal.specs.Part.{no_part}
 use Rattle.host_port.specs.declared.request.Request.{Request}
-use Rattle.host_port.specs.Turn.{Requests}
+use Rattle.turn_rules.specs.Turn.{Requests}
 use Rattle.journal.specs.Judged.{judgement_of}
 use Rattle.std.proofs.Common.{is_some}
 use Rattle.process_table.specs.Holds.{seat_of}
@@ -48,8 +48,8 @@ returns-in-Some-clause-meets g c program p few to =
     let judged = c.judged.ensures p.start part (c.is_some.ensures ∙ ap is_some to.gone.scratch) in
     ends_by_fault engines g.E.Engine.at program p seat c.args.calls.now c.in-Ok.request c.in-Some.fault to few asks' fueled (judged ∙ ap judgement_of c.in-Some.is)
 
-pub returns-then-not-is_local_call-clause-meets : goal.returns-then-not-is_local_call-clause-meets
-returns-then-not-is_local_call-clause-meets g c program p few to =
+pub returns-then-not-is_local-clause-meets : goal.returns-then-not-is_local-clause-meets
+returns-then-not-is_local-clause-meets g c program p few to =
     let engines = meaning g.E.Engine.stands g.E.Engine.phase g.E.Engine.memory in
     let laws = g.met.E.Engine g.world.𝓛 g.world.𝓜 g.world.𝓡 ((λ s x. x), (λ x. x), (λ x. x), λ x. x) in
     let engine = c.args.proc.now.engine in
@@ -65,7 +65,7 @@ returns-then-not-is_local_call-clause-meets g c program p few to =
     let asks' = subst (λ (r : Request). Requests (g.E.Engine.at program p.start calls fuel) r) (sym is) asks in
     let judged = c.judged.ensures p.start part (c.is_some.ensures ∙ ap is_some to.gone.scratch) in
     let asked = ap (λ (r : Request). r.ask) is in
-    ends_by_asking engines g.E.Engine.at program p seat c.args.calls.now c.in-Ok.request to few asks' fueled (rw asked (sym c.is_local_call.ensures ∙ c.if-not-is_local_call.true)) (judged ∙ ap judgement_of c.in_default-judged.is) (rw asked c.requires.way.phase) (is ∙ ap (λ (k : Ask). request_of (g.E.Engine.memory engine) k) (sym asked))
+    ends_by_asking engines g.E.Engine.at program p seat c.args.calls.now c.in-Ok.request to few asks' fueled (rw asked (sym c.is_local.ensures ∙ c.if-not-is_local.true)) (judged ∙ ap judgement_of c.in_default-judged.is) (rw asked c.requires.way.phase) (is ∙ ap (λ (k : Ask). request_of (g.E.Engine.memory engine) k) (sym asked))
 
 pub returns-in_default-push-clause-meets : goal.returns-in_default-push-clause-meets
 returns-in_default-push-clause-meets g c program p few to =
@@ -86,7 +86,7 @@ pub answer-requires : goal.answer-requires
 answer-requires g c =
     let is : c.in-Ok.request ≡ request_of (g.E.Engine.memory c.args.proc.now.engine) c.args.ask = rw c.in-Ok.is at c.resolve.ensures in
     let asked = ap (λ (r : Request). r.ask) is in
-    local_answerable (g.E.Engine.phase c.args.proc.now.engine) (g.E.Engine.memory c.args.proc.now.engine) c.args.ask c.args.proc.now.start.pid c.args.proc.now.start no_part c.in-Ok.request c.reply_to-reply.result c.requires.way.phase (sym c.is_local_call.ensures ∙ c.if-not-is_local_call.false) (search rules) refl asked (c.reply_to-reply.ensures c.args.proc.now.start no_part refl)
+    local_answerable (g.E.Engine.phase c.args.proc.now.engine) (g.E.Engine.memory c.args.proc.now.engine) c.args.ask c.args.proc.now.start.pid c.args.proc.now.start no_part c.in-Ok.request c.reply_to-reply.result c.requires.way.phase (sym c.is_local.ensures ∙ c.if-not-is_local.false) (search rules) refl asked (c.reply_to-reply.ensures c.args.proc.now.start no_part refl)
 
 pub returns-clause-way : goal.returns-clause-way
 returns-clause-way g c none =
@@ -116,7 +116,7 @@ returns-clause-meets g c program p few to =
     let judged = c.judged.ensures p.start part (c.is_some.ensures ∙ ap is_some to.gone.scratch) in
     let asked = ap (λ (r : Request). r.ask) is in
     let fit = judged ∙ ap judgement_of c.in_default-judged.is in
-    let own = sym c.is_local_call.ensures ∙ c.if-not-is_local_call.false in
+    let own = sym c.is_local.ensures ∙ c.if-not-is_local.false in
     let replied = c.reply_to-reply.ensures p.start part (ap (λ (s : Start). s.pid) (sym to.gone.start)) in
     let same = c.reply_to.ensures p.start part (ap (λ (s : Start). s.pid) (sym to.gone.start)) ∙ sym replied in
     let pushed = rw same at (rw c.in-Ok-push.is at c.push.ensures.ok) in

@@ -1,7 +1,7 @@
 use Rattle.std.proofs.Common.{map, refl, sym, ◌∙◌}
 use Rattle.std.proofs.lemmas.List.{length-map}
 use Rattle.std.specs.Arc.{arc_value}
-use Rattle.process_table.proofs.Beginning.{node-first, program-at}
+use Rattle.process_table.proofs.Beginning.{node-first, program-at, begins-same}
 use Rattle.process_table.proofs.node.Node.new.Goals as goal
 
 pub invariant_of-result : goal.invariant_of-result
@@ -17,3 +17,11 @@ invariant_of-result g c =
 
 pub returns-clause-run : goal.returns-clause-run
 returns-clause-run g c = (invariant_of-result g c).keeps.stands.run
+
+pub returns-in_default-first_ready-clause-wants : goal.returns-in_default-first_ready-clause-wants
+returns-in_default-first_ready-clause-wants g c = λ e p found.
+    begins-same arc_value g.E.Engine.begin c.args.programs.items c.args.start c.index.result.now p c.requires.program c.index.ensures c.in_ok-engine.ensures.begins found
+
+pub returns-in_default-first_homes-clause-wants : goal.returns-in_default-first_homes-clause-wants
+returns-in_default-first_homes-clause-wants g c = λ e p found.
+    begins-same arc_value g.E.Engine.begin c.args.programs.items c.args.start c.index.result.now p c.requires.program c.index.ensures c.in_ok-engine.ensures.begins found
