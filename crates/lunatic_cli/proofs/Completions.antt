@@ -1,7 +1,7 @@
 -- What becomes of a file, by the verdict on its bytes.
 use Rattle.std.proofs.Common.{◌≡◌, ◌≢◌, ℕ, ◌≤◌, List, length, Option, Some, None, ◌⊎◌, inl, inr, refl, sym, ap, ◌∙◌, subst, arith}
 use Rattle.std.specs.Prelude.{IfSome, IfNone}
-use Rattle.outside.specs.Causes.{Rose, Stayed}
+use Rattle.outside.specs.Causes.{RoseOrFull, StayedBelow}
 use Rattle.outside.specs.Files.{Contents}
 use Rattle.wasm_form.specs.Small.{SmallInstr}
 use Rattle.wasm_form.specs.Form.{Small}
@@ -108,7 +108,7 @@ tells_refused M (Invalid place) (Some v) sink status other told memory = inl tol
 
 pub check_completes : (M : Type 0) → IsAlone → (content : Option Contents) (name bytes : List ℕ) (said : Verdict) (checked : Option Verdict) (sink : Written) (status : ℕ) →
     IsContent content name bytes → is.IsVerdict host bytes (meant_by said) → Told said checked sink status → IfNone checked ((status ≡ 8) × M) →
-    (status ≡ 5 → Rose sink.faults_before sink.faults_after) → Stayed sink.faults_before sink.faults_after → CheckCompletes content name status
+    (status ≡ 5 → RoseOrFull sink.faults_before sink.faults_after) → StayedBelow sink.faults_before sink.faults_after → CheckCompletes content name status
 check_completes M alone content name bytes said None sink status is_content v told memory unwritten stayed = check_memory content name status memory.0
 check_completes M alone content name bytes Accepted (Some w) sink status is_content v told memory unwritten stayed = elim told.1 [
   | inl done ↦ check_accepted alone content name bytes status is_content v (inl done.0)

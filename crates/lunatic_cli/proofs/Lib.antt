@@ -4,6 +4,7 @@ pub mod Rounds
 pub mod SomeExecuted
 pub mod Steps
 pub mod Clocks
+pub mod Entered
 pub mod Outsides
 pub mod Births
 pub mod SmallStatus

@@ -3,7 +3,7 @@ use Rattle.std.proofs.Common.{◌≡◌, ◌<◌, ◌≤◌, ◌&&◌, ◌||◌,
 use Rattle.std.specs.List.{list_any}
 use Rattle.std.proofs.lemmas.Bool.Decides.{nat_tests}
 use Rattle.std.proofs.lemmas.List.Folds.{list_any-append}
-use Rattle.outside.specs.Causes.{Rose, Stayed}
+use Rattle.outside.specs.Causes.{RoseOrFull, StayedBelow}
 use Rattle.host_port.specs.declared.call.Call.{Call}
 use Rattle.host_port.specs.declared.start.Start.{Start}
 use Rattle.host_port.specs.declared.stop.Spent.{Spent}
@@ -122,7 +122,7 @@ small-told list book status short ends has =
 
 -- a run whose sink did not fail
 pub done-or-memory : (list : List SmallInstr) (book : Book) (status before now : ℕ) (old new : Option (List ℕ)) → length list < 1000000000 → EndsByLast (small_setting list) (told book) book.entries →
-    WritesReport old new book status → (status ≡ 5 → Rose before now) → Stayed before now → (status ≡ 0) ⊎ (status ≡ 8)
+    WritesReport old new book status → (status ≡ 5 → RoseOrFull before now) → StayedBelow before now → (status ≡ 0) ⊎ (status ≡ 8)
 done-or-memory list book status before now old new short ends (inl reported) cause stayed = small-told list book status short ends reported.status_told
 done-or-memory list book status before now old new short ends (inr (inl unwritten)) cause stayed = absurd (omega (arith, cause unwritten.status_is, stayed))
 done-or-memory list book status before now old new short ends (inr (inr memory)) cause stayed = inr memory.0

@@ -6,7 +6,7 @@ use Rattle.host_port.specs.declared.call.Call.{Call}
 use Rattle.host_port.specs.declared.reply.Reply.{Reply}
 use Rattle.host_port.specs.declared.request.Request.{Request}
 use Rattle.host_port.specs.Standing.{Standing, State, Asking, state_of, MayStep}
-use Rattle.host_port.specs.Turn.{Ending, Sliced, Meets, GoesOn, IsTurn}
+use Rattle.turn_rules.specs.Turn.{Ending, Sliced, Meets, GoesOn, IsTurn}
 use Rattle.journal.specs.declared.halt.Halt.TheVariants as HaltIs
 use Rattle.journal.specs.World.{Process}
 use Rattle.journal.specs.Judge.{local}

@@ -5,6 +5,7 @@ pub mod File
 pub mod Judged
 pub mod Checks
 pub mod Times
+pub mod Entering
 pub mod Statuses
 pub mod Resting
 pub mod SmallRuns

@@ -10,7 +10,7 @@ use Rattle.wasm_form.specs.Form.{module_of}
 use Rattle.wasm_form.specs.Small.{SmallInstr}
 use Rattle.fuel_stepper.specs.SmallRuns.{small_begin, small_at}
 
--- process 1 enters `_start` of module 0 without parameters; it may have 64 pages, execute 1,000,000,000 instructions,
+-- process 1 enters `_start` of module 0 without parameters; it may have 64 pages, burn 1,000,000,000 of fuel,
 -- and move 67,108,864 bytes by its calls
 abbrev pub default_start : Start
 default_start = record {

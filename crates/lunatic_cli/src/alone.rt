@@ -8,6 +8,7 @@ ghost use Rattle.process_table.specs.Takes.{SameTerms};
 ghost use Rattle.lunatic_cli.specs.Statuses.{EndsByLast};
 ghost use Rattle.lunatic_cli.specs.Resting.{IsResting, rounds_left};
 ghost use Rattle.lunatic_cli.specs.Times.{times_of, AreBetween};
+ghost use Rattle.lunatic_cli.specs.Entering.{takes_of, EntersAll};
 
 use host_port::Engine;
 use journal::Journal;
@@ -21,7 +22,7 @@ const WORKER: u8 = 0;
 
 /// Runs a node to its end: one worker goes round it with one outside, and gives up its journal.
 ///
-/// It returns. Where the machine refuses the memory for a round, the run is over by a Starve.
+/// It returns. The outside is told of each process that is taken, before its turn. Where the machine refuses the memory for a round, the run is over by a Starve.
 pub fn run_alone<E: Engine, O: Outside>(
     alloc: Global,
     mut node: Node<E, O>,
@@ -40,6 +41,7 @@ pub fn run_alone<E: Engine, O: Outside>(
 
     // What becomes of the outside.
     ensures times { AreBetween (O.clock outside.old) (O.clock outside.new) (times_of result.entries) }
+    ensures entered { EntersAll (O.entered outside.old) (O.entered outside.new) (takes_of result.entries) }
     ensures clock { GoesNotBack (O.clock outside.old) (O.clock outside.new) }
     ensures faults { O.faults outside.old ≤ O.faults outside.new }
     ensures waits { O.waits outside.old ≤ O.waits outside.new }
@@ -61,6 +63,8 @@ fn go_round<E: Engine, O: Outside>(alloc: Global, node: &mut Node<E, O>, outside
         < rounds_left (setting_of E.begin E.at node.old) (world_of node.old) }
     ensures times { (more : List ℕ) × (times_of node.new.book.entries ≡ times_of node.old.book.entries ++ more)
         × AreBetween (O.clock outside.old) (O.clock outside.new) more }
+    ensures entered { (pids : List ℕ) × (takes_of node.new.book.entries ≡ takes_of node.old.book.entries ++ pids)
+        × EntersAll (O.entered outside.old) (O.entered outside.new) pids }
     ensures clock { GoesNotBack (O.clock outside.old) (O.clock outside.new) }
     ensures faults { O.faults outside.old ≤ O.faults outside.new }
     ensures waits { O.waits outside.old ≤ O.waits outside.new }

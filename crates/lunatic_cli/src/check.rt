@@ -1,5 +1,5 @@
-ghost use Rattle.std.specs.Prelude.{◌≡◌, ◌≢◌, ◌≤◌, ◌⊎◌, ◌↔◌, IsSomeAnd};
-ghost use Rattle.outside.specs.Causes.{Rose, Stayed};
+ghost use Rattle.std.specs.Prelude.{◌≡◌, ◌≢◌, ◌≤◌, ◌⊎◌, ◌↔◌, IsSome, IsSomeAnd};
+ghost use Rattle.outside.specs.Causes.{Rose, RoseOrFull, Stayed, StayedBelow};
 ghost use Rattle.lunatic_cli.specs.File.{TellsUnread};
 ghost use Rattle.lunatic_cli.specs.Checks.{EndsCheck, CheckCompletes};
 
@@ -35,10 +35,14 @@ pub fn check_call<F: Files, K: Sink>(
         → Rose (F.faults files.old) (F.faults files.new) ⊎ Rose (F.lacks files.old) (F.lacks files.new) }
     ensures unread_told { TellsUnread (F.content files.old) (F.faults files.old) (F.faults files.new) name.now
         result.status }
-    ensures unwritten { result.status ≡ 5 → Rose (K.faults out.old) (K.faults out.new) }
+    ensures past_file { IsSome result.verdict
+        → Stayed (F.faults files.old) (F.faults files.new) × Stayed (F.lacks files.old) (F.lacks files.new) }
+    ensures unwritten { result.status ≡ 5 → RoseOrFull (K.faults out.old) (K.faults out.new) }
+    ensures written { result.status ≢ 3 → result.status ≢ 4 → result.status ≢ 5 → result.status ≢ 8
+        → Stayed (K.faults out.old) (K.faults out.new) }
     ensures completes { Stayed (F.faults files.old) (F.faults files.new)
         → Stayed (F.lacks files.old) (F.lacks files.new)
-        → Stayed (K.faults out.old) (K.faults out.new)
+        → StayedBelow (K.faults out.old) (K.faults out.new)
         → CheckCompletes (F.content files.old) name.now result.status }
 
     // What the outside keeps.

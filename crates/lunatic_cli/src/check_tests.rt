@@ -41,7 +41,7 @@ fn told(
     words.push(String::from_str(alloc, "file")?)?;
     let mut outsides = Vec::new(alloc);
     for _ in 0..16 {
-        outsides.push(MemOutside::new())?;
+        outsides.push(MemOutside::with_nothing(alloc))?;
     }
     if outsides.len() < 16 {
         return Err("sixteen outsides")?;

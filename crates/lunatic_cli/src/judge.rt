@@ -1,4 +1,4 @@
-ghost use Rattle.std.specs.Prelude.{◌≡◌, ◌≤◌, ◌⊎◌, Err, IfOk, IfSome};
+ghost use Rattle.std.specs.Prelude.{◌≡◌, ◌≤◌, ◌⊎◌, Err, IfOk, IfSome, OnOk};
 ghost use Rattle.outside.specs.Causes.{Rose, Stayed};
 ghost use Rattle.wasm_form.specs.Verdict.{IsVerdict, IsVerdictOn};
 ghost use Rattle.module_validator.specs.Host.{host};
@@ -35,6 +35,8 @@ pub enum Unjudged {
 /// Reads the file of this name and judges it.
 pub fn judge<F: Files>(alloc: Global, files: &mut F, name: &str) -> Result<JudgedFile, Unjudged>
     ensures judged { IfOk result (λ file. IsJudged (F.content files.old) name.now file) }
+    ensures stayed { OnOk result (Stayed (F.faults files.old) (F.faults files.new)
+        × Stayed (F.lacks files.old) (F.lacks files.new)) }
     ensures unread { result ≡ Err Unjudged.Unread
         → Rose (F.faults files.old) (F.faults files.new) ⊎ Rose (F.lacks files.old) (F.lacks files.new) }
     ensures told { result ≡ Err Unjudged.Unread → Stayed (F.faults files.old) (F.faults files.new)

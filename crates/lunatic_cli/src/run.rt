@@ -1,5 +1,5 @@
-ghost use Rattle.std.specs.Prelude.{◌≡◌, ◌<◌, ◌≤◌, ◌⊎◌, List, Some, [], map, length, vec_len};
-ghost use Rattle.outside.specs.Causes.{Rose, Stayed};
+ghost use Rattle.std.specs.Prelude.{◌≡◌, ◌≢◌, ◌<◌, ◌≤◌, ◌⊎◌, List, Some, [], map, length, vec_len};
+ghost use Rattle.outside.specs.Causes.{RoseOrFull, Stayed, StayedBelow};
 ghost use Rattle.journal.specs.Lives.{IsRun};
 ghost use Rattle.journal.specs.Report.{IsReportable};
 ghost use Rattle.journal.specs.Runs.{told};
@@ -50,7 +50,8 @@ fn write_report<K: Sink>(alloc: Global, journal: &Journal, out: &mut K) -> u8
     requires reportable { IsReportable journal.now }
     requires ended { (list : List SmallInstr) × EndsByLast (small_setting list) (told journal.now) journal.now.entries }
     ensures writes { WritesReport (K.written out.old) (K.written out.new) journal.now result }
-    ensures unwritten { result ≡ 5 → Rose (K.faults out.old) (K.faults out.new) }
+    ensures unwritten { result ≡ 5 → RoseOrFull (K.faults out.old) (K.faults out.new) }
+    ensures written { result ≢ 5 → result ≢ 8 → Stayed (K.faults out.old) (K.faults out.new) }
     ensures later { K.faults out.old ≤ K.faults out.new }
 {
     let status = status_of(journal);
@@ -80,9 +81,10 @@ pub fn run<K: Sink, O: Outside>(
         RunsWhole (small_setting list) (map O.clock outsides.old.items) (map O.clock outsides.new.items)
         (K.written out.old) (K.written out.new) result.journal result.status
         ⊎ RunsNothing (K.written out.old) (K.written out.new) result.journal result.status }
-    ensures unwritten { result.status ≡ 5 → Rose (K.faults out.old) (K.faults out.new) }
+    ensures unwritten { result.status ≡ 5 → RoseOrFull (K.faults out.old) (K.faults out.new) }
+    ensures written { result.status ≢ 5 → result.status ≢ 8 → Stayed (K.faults out.old) (K.faults out.new) }
     ensures done { (list : List SmallInstr) → «module» ≡ module_of list → length list < 1000000000 →
-        Stayed (K.faults out.old) (K.faults out.new) → (result.status ≡ 0) ⊎ (result.status ≡ 8) }
+        StayedBelow (K.faults out.old) (K.faults out.new) → (result.status ≡ 0) ⊎ (result.status ≡ 8) }
     ensures later { K.faults out.old ≤ K.faults out.new }
     ensures clocks { NoneGoesBack (map O.clock outsides.old.items) (map O.clock outsides.new.items) }
     ensures faults { NoneFalls (map O.faults outsides.old.items) (map O.faults outsides.new.items) }

@@ -1,6 +1,6 @@
 ghost use Rattle.std.specs.Prelude.{◌≡◌, ◌≢◌, ◌<◌, ◌≤◌, ◌⊎◌, ◌↔◌, ℕ, List, Option, Some, IfOk, IfErr, IfSome, IsSome, IsSomeAnd, true, map, vec_len};
 ghost use Rattle.std.specs.List.{list_any};
-ghost use Rattle.outside.specs.Causes.{Rose, Stayed};
+ghost use Rattle.outside.specs.Causes.{Rose, RoseOrFull, Stayed, StayedBelow};
 ghost use Rattle.journal.specs.Book.{IsBlank};
 ghost use Rattle.wasm_form.specs.Small.{SmallInstr};
 ghost use Rattle.wasm_form.specs.Form.{module_of};
@@ -50,6 +50,10 @@ fn module_to_run<F: Files, K: Sink>(
     ensures blank { IfErr result (λ finish. IsBlank finish.journal) }
     ensures refused { IfErr result (λ finish. (finish.status ≡ 3) ↔ IsSome finish.verdict) }
     ensures statuses { IfErr result (λ finish. (finish.status ≡ 3) ⊎ ((finish.status ≡ 4) ⊎ (finish.status ≡ 8))) }
+    ensures past_file { IfOk result (λ _.
+        Stayed (F.faults files.old) (F.faults files.new) × Stayed (F.lacks files.old) (F.lacks files.new)) }
+    ensures refused_file { IfErr result (λ finish. IsSome finish.verdict
+        → Stayed (F.faults files.old) (F.faults files.new) × Stayed (F.lacks files.old) (F.lacks files.new)) }
     ensures unread { IfErr result (λ finish. finish.status ≡ 4
         → Rose (F.faults files.old) (F.faults files.new) ⊎ Rose (F.lacks files.old) (F.lacks files.new)) }
     ensures unread_told { IfErr result (λ finish. TellsUnread (F.content files.old) (F.faults files.old)
@@ -123,10 +127,14 @@ pub fn run_call<F: Files, K: Sink, O: Outside>(
         → Rose (F.faults files.old) (F.faults files.new) ⊎ Rose (F.lacks files.old) (F.lacks files.new) }
     ensures unread_told { TellsUnread (F.content files.old) (F.faults files.old) (F.faults files.new) name.now
         result.status }
-    ensures unwritten { result.status ≡ 5 → Rose (K.faults out.old) (K.faults out.new) }
+    ensures past_file { IsSome result.verdict
+        → Stayed (F.faults files.old) (F.faults files.new) × Stayed (F.lacks files.old) (F.lacks files.new) }
+    ensures unwritten { result.status ≡ 5 → RoseOrFull (K.faults out.old) (K.faults out.new) }
+    ensures written { result.status ≢ 3 → result.status ≢ 4 → result.status ≢ 5 → result.status ≢ 8
+        → Stayed (K.faults out.old) (K.faults out.new) }
     ensures completes { Stayed (F.faults files.old) (F.faults files.new)
         → Stayed (F.lacks files.old) (F.lacks files.new)
-        → Stayed (K.faults out.old) (K.faults out.new)
+        → StayedBelow (K.faults out.old) (K.faults out.new)
         → IfSome (F.content files.old) (λ _. CompletesRun (F.content files.old) name.now result.status) }
 
     // What the outside keeps.

@@ -18,7 +18,7 @@ const ENTRY: &[u8] = b"_start";
 /// The most pages of process 1's memory.
 const PAGES: u32 = 64;
 
-/// The most instructions of process 1's life.
+/// The most fuel of process 1's life.
 const FUEL: u64 = 1_000_000_000;
 
 /// The most bytes that process 1's calls move.

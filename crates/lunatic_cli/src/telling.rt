@@ -1,5 +1,5 @@
-ghost use Rattle.std.specs.Prelude.{◌≡◌, ◌≤◌, None, IfOk, IfSome, IfNone, string_bytes};
-ghost use Rattle.outside.specs.Causes.{Rose};
+ghost use Rattle.std.specs.Prelude.{◌≡◌, ◌≢◌, ◌≤◌, ◌⊎◌, None, IfOk, IfSome, IfNone, string_bytes};
+ghost use Rattle.outside.specs.Causes.{RoseOrFull, Stayed};
 ghost use Rattle.lunatic_cli.specs.Texts.{verdict_line};
 ghost use Rattle.lunatic_cli.specs.Writing.{WritesLine};
 ghost use Rattle.lunatic_cli.specs.Checks.{EndsUnjudged, TellsVerdict};
@@ -35,6 +35,7 @@ pub fn tell_unjudged<K: Sink>(out: &mut K, why: Unjudged) -> Checked
       after = K.written out.new;
     }) result.status }
     ensures unread { result.status ≡ 4 → why ≡ Unjudged.Unread }
+    ensures statuses { (result.status ≡ 4) ⊎ (result.status ≡ 8) }
     ensures later { K.faults out.old ≤ K.faults out.new }
 {
     let status = match why {
@@ -76,7 +77,8 @@ fn write_verdict<K: Sink>(out: &mut K, verdict: Verdict, line: &[u8]) -> u8
       before = K.written out.old;
       after = K.written out.new;
     }) result }
-    ensures unwritten { result ≡ 5 → Rose (K.faults out.old) (K.faults out.new) }
+    ensures unwritten { result ≡ 5 → RoseOrFull (K.faults out.old) (K.faults out.new) }
+    ensures written { result ≢ 3 → result ≢ 5 → Stayed (K.faults out.old) (K.faults out.new) }
     ensures later { K.faults out.old ≤ K.faults out.new }
 {
     let wrote = write_all(out, line);
@@ -96,7 +98,8 @@ pub fn tell_verdict<K: Sink>(alloc: Global, out: &mut K, verdict: Verdict) -> Ch
       after = K.written out.new;
     }) result.status) }
     ensures memory { IfNone result.verdict ((result.status ≡ 8) × (out.new ≡ out.old)) }
-    ensures unwritten { result.status ≡ 5 → Rose (K.faults out.old) (K.faults out.new) }
+    ensures unwritten { result.status ≡ 5 → RoseOrFull (K.faults out.old) (K.faults out.new) }
+    ensures written { result.status ≢ 3 → result.status ≢ 5 → Stayed (K.faults out.old) (K.faults out.new) }
     ensures later { K.faults out.old ≤ K.faults out.new }
 {
     let Ok(line) = line_of(alloc, verdict) else {

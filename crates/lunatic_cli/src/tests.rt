@@ -1,6 +1,5 @@
-ghost use Rattle.std.specs.Prelude.{◌≡◌, IsTrue, [], IfOk, is_some};
-ghost use Rattle.std.specs.List.{list_all};
-ghost use Rattle.host_port.specs.HostTable.{row_of};
+ghost use Rattle.std.specs.Prelude.{◌≡◌, IsTrue, [], IfOk};
+ghost use Rattle.process_table.specs.Rows.{are_served};
 ghost use Rattle.journal.specs.Report.{IsReportable};
 
 use crate::{RunVerdict, Verdict, lunatic, run_alone};
@@ -8,7 +7,9 @@ use fuel_stepper::{SmallInstance, SmallModule};
 use host_port::{Ask, Bytes, Limits, Params, Start};
 use journal::{Birth, Ended, Entry, Halt, Journal, Side, report};
 use module_reader::read_small;
-use outside::{MemFiles, MemOutside, MemSink};
+use outside::{
+    AcceptStep, BlankListener, BlankStream, MakeStep, MemFiles, MemOutside, MemSink, Outside, raise,
+};
 use process_table::Node;
 use script_engine::{Script, ScriptEngine};
 use std::alloc::{AllocError, Global};
@@ -55,7 +56,7 @@ fn store(alloc: Global, fails: Vec<u64>) -> Result<MemFiles, AllocError> {
 fn sixteen(alloc: Global) -> Result<Vec<MemOutside>, AllocError> {
     let mut outsides = Vec::new(alloc);
     for _ in 0..16 {
-        outsides.push(MemOutside::new())?;
+        outsides.push(MemOutside::with_nothing(alloc))?;
     }
     Ok(outsides)
 }
@@ -259,8 +260,8 @@ fn ask(call: u8, first: u64, second: u64, third: u64) -> Ask
 }
 
 /// A node whose process 1 asks these, and returns.
-fn script_node(alloc: Global, asks: Vec<Ask>) -> Result<Node<ScriptEngine, MemOutside>, Fail>
-    requires { IsTrue (list_all (λ ask. is_some (row_of ask.call)) asks.items) }
+fn script_node<O: Outside>(alloc: Global, asks: Vec<Ask>) -> Result<Node<ScriptEngine, O>, Fail>
+    requires { IsTrue (are_served asks.items) }
     ensures { IfOk result (λ node. node.book.entries ≡ []) }
 {
     let mut programs = Vec::new(alloc);
@@ -273,9 +274,9 @@ fn script_node(alloc: Global, asks: Vec<Ask>) -> Result<Node<ScriptEngine, MemOu
 
 /// The text of the run of a script by one worker.
 fn script_text(alloc: Global, asks: Vec<Ask>) -> Result<Vec<u8>, Fail>
-    requires { IsTrue (list_all (λ ask. is_some (row_of ask.call)) asks.items) }
+    requires { IsTrue (are_served asks.items) }
 {
-    let mut outside = MemOutside::new();
+    let mut outside = MemOutside::with_nothing(alloc);
     let node = script_node(alloc, asks)?;
     let journal = run_alone(alloc, node, &mut outside);
     Ok(text_of(alloc, &journal)?)
@@ -327,12 +328,98 @@ fn one_worker_runs_a_module_to_its_fuel(rt: HostRuntime) -> Result<(), Fail> {
     ) else {
         return Err("start")?;
     };
-    let mut outside = MemOutside::new();
+    let mut outside = MemOutside::with_nothing(alloc);
     let journal = run_alone(alloc, node, &mut outside);
     let text = text_of(alloc, &journal)?;
     assert_eq!(rt;
         text.as_slice(),
         b"process 1 spent fuel fuel 1 pages 0 mark 0\ntotal processes 1 messages 0 streams 0\n".as_slice()
     );
+    Ok(())
+}
+
+/// An outside that records the first processes that are entered, and how many rests there were.
+#[derive(Drop)]
+struct Recorder {
+    entered: [u64; 8],
+    count: usize,
+    rests: u64,
+}
+
+impl Outside for Recorder {
+    type Stream = BlankStream;
+
+    type Listener = BlankListener;
+
+    ghost use Rattle.std.specs.Prelude.{None};
+
+    ghost faults = { λ _. 0 };
+
+    ghost waits = { λ _. 0 };
+
+    ghost rests = { λ o. o.rests };
+
+    ghost clock = { λ _. None };
+
+    ghost entered = { λ _. None };
+
+    fn now(&mut self) -> u64 {
+        0
+    }
+
+    fn bind(&mut self, _ip: u32, _port: u16) -> MakeStep<BlankListener> {
+        MakeStep::NoMemory
+    }
+
+    fn accept(&mut self, _listener: &mut BlankListener) -> AcceptStep<BlankStream> {
+        AcceptStep::NoMemory
+    }
+
+    fn connect(&mut self, _ip: u32, _port: u16) -> MakeStep<BlankStream> {
+        MakeStep::NoMemory
+    }
+
+    fn enter(&mut self, pid: u64) {
+        if self.count < 8 {
+            self.entered[self.count] = pid;
+            self.count += 1;
+        }
+    }
+
+    fn rest(&mut self) {
+        raise(&mut self.rests);
+    }
+}
+
+/// The processes that were entered in the run of a script by one worker, where there are eight at most, and the rests.
+fn recorded(alloc: Global, asks: Vec<Ask>) -> Result<Recorder, Fail>
+    requires { IsTrue (are_served asks.items) }
+{
+    let mut outside = Recorder {
+        entered: [0; 8],
+        count: 0,
+        rests: 0,
+    };
+    let node = script_node(alloc, asks)?;
+    run_alone(alloc, node, &mut outside);
+    Ok(outside)
+}
+
+// A round rests where its give was pending or nothing could be taken, and neither comes to pass with one process.
+#[test]
+fn the_process_of_each_turn_is_entered_and_no_round_rests(rt: HostRuntime) -> Result<(), Fail> {
+    let alloc = rt.alloc();
+    let asks = vec![in alloc;
+        ask(10, 0, 0, 0),
+        ask(0, 5, 0, 0),
+        ask(8, 1, 0, 0),
+        ask(9, 0, 0, u64::MAX),
+    ]?;
+    let sends = recorded(alloc, asks)?;
+    assert_eq!(rt; sends.entered, [1, 1, 1, 0, 0, 0, 0, 0]);
+    assert_eq!(rt; sends.rests, 0);
+    let waits = recorded(alloc, vec![in alloc; ask(9, 0, 0, u64::MAX)]?)?;
+    assert_eq!(rt; waits.entered, [1, 0, 0, 0, 0, 0, 0, 0]);
+    assert_eq!(rt; waits.rests, 0);
     Ok(())
 }

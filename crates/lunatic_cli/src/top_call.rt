@@ -1,6 +1,6 @@
-ghost use Rattle.std.specs.Prelude.{◌≡◌, ◌≢◌, ◌≤◌, ◌⊎◌, ◌↔◌, ℕ, List, Some, None, IfSome, IsSomeAnd, true, map, string_bytes, vec_len};
+ghost use Rattle.std.specs.Prelude.{◌≡◌, ◌≢◌, ◌≤◌, ◌⊎◌, ◌↔◌, ℕ, List, Some, None, IfSome, IsSome, IsSomeAnd, true, map, string_bytes, vec_len};
 ghost use Rattle.std.specs.List.{list_any};
-ghost use Rattle.outside.specs.Causes.{Rose, Stayed};
+ghost use Rattle.outside.specs.Causes.{Rose, RoseOrFull, Stayed, StayedBelow};
 ghost use Rattle.journal.specs.Book.{IsBlank};
 ghost use Rattle.lunatic_cli.specs.declared.finish.RunVerdict.TheVariants.{Judged};
 ghost use Rattle.lunatic_cli.specs.Words.{Run, Check, command_of, file_of};
@@ -63,10 +63,14 @@ pub fn lunatic<F: Files, K: Sink, O: Outside>(
         → Rose (F.faults files.old) (F.faults files.new) ⊎ Rose (F.lacks files.old) (F.lacks files.new) }
     ensures unread_told { IfSome (command_of (map string_bytes words.now)) (λ asked.
         TellsUnread (F.content files.old) (F.faults files.old) (F.faults files.new) (file_of asked) result.status) }
-    ensures unwritten { result.status ≡ 5 → Rose (K.faults out.old) (K.faults out.new) }
+    ensures past_file { IsSome result.verdict
+        → Stayed (F.faults files.old) (F.faults files.new) × Stayed (F.lacks files.old) (F.lacks files.new) }
+    ensures unwritten { result.status ≡ 5 → RoseOrFull (K.faults out.old) (K.faults out.new) }
+    ensures written { result.status ≢ 2 → result.status ≢ 3 → result.status ≢ 4 → result.status ≢ 5 → result.status ≢ 8
+        → Stayed (K.faults out.old) (K.faults out.new) }
     ensures completes { Stayed (F.faults files.old) (F.faults files.new)
         → Stayed (F.lacks files.old) (F.lacks files.new)
-        → Stayed (K.faults out.old) (K.faults out.new)
+        → StayedBelow (K.faults out.old) (K.faults out.new)
         → Completes (F.content files.old) (command_of (map string_bytes words.now)) result.status }
 
     // What the outside keeps.

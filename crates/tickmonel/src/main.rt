@@ -53,7 +53,7 @@ fn all_outsides(alloc: Global) -> Result<Vec<MemOutside>, NoMemory>
 {
     let mut outsides = Vec::new(alloc);
     for _worker in 0..WORKERS {
-        outsides.push(MemOutside::new())?;
+        outsides.push(MemOutside::with_nothing(alloc))?;
     }
     Ok(outsides)
 }

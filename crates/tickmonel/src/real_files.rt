@@ -1,6 +1,6 @@
 ghost use Rattle.std.specs.Prelude.{◌≡◌, ◌≤◌, length};
 
-use outside::{FileStep, Files};
+use outside::{FileStep, Files, raise};
 use std::fs::File;
 use std::io::{self, ErrorKind, Read};
 use std::rt;
@@ -38,12 +38,13 @@ impl<R: rt::Files> Files for RealFiles<'_, R> {
 
     fn read(&mut self, name: &str, into: &mut Vec<u8>, limit: u64) -> FileStep {
         let step = read_file(self.rt, name, into, limit);
-        match step {
-            FileStep::Failed => self.faults = self.faults.saturating_add(1),
-            FileStep::TooLong | FileStep::Missing => self.lacks = self.lacks.saturating_add(1),
-            FileStep::Done | FileStep::NoMemory => {}
-        }
-        step
+        // A count at its end rises no more, so the answer that would raise it is want of memory.
+        let counted = match step {
+            FileStep::Failed => raise(&mut self.faults),
+            FileStep::TooLong | FileStep::Missing => raise(&mut self.lacks),
+            FileStep::Done | FileStep::NoMemory => true,
+        };
+        if counted { step } else { FileStep::NoMemory }
     }
 }
 

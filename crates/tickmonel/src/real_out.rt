@@ -1,6 +1,6 @@
 ghost use Rattle.std.specs.Prelude.{◌≡◌};
 
-use outside::{Failed, Sink};
+use outside::{Failed, Sink, raise};
 use std::io::Write;
 
 /// A writer of std as a sink. It tells nothing of what was written.
@@ -29,14 +29,19 @@ impl<W: Write + Drop> Sink for RealOut<W> {
 
     fn write(&mut self, piece: &[u8]) -> Result<usize, Failed> {
         match self.inner.write(piece) {
-            Ok(0) => {
-                self.faults = self.faults.saturating_add(1);
-                Ok(0)
+            Ok(count) => {
+                if count == 0 && !piece.is_empty() {
+                    raise(&mut self.faults);
+                }
+                Ok(count)
             }
-            Ok(count) => Ok(count),
+            // A count at its end rises no more, so nothing is taken in place of a fault.
             Err(_) => {
-                self.faults = self.faults.saturating_add(1);
-                Err(Failed)
+                if raise(&mut self.faults) {
+                    Err(Failed)
+                } else {
+                    Ok(0)
+                }
             }
         }
     }

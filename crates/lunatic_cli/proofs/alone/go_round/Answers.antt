@@ -1,4 +1,4 @@
-use Rattle.std.proofs.Common.{◌<◌, [], ℕ, refl, sym, subst, arith, Option}
+use Rattle.std.proofs.Common.{◌<◌, [], ℕ, List, refl, sym, subst, arith, Option}
 use Rattle.journal.specs.declared.entry.Entry.TheVariants.{Take, Give, Stall, Starve}
 use Rattle.process_table.specs.Holds.{seat_of}
 use Rattle.process_table.specs.Seen.{world_of, setting_of}
@@ -6,6 +6,8 @@ use Rattle.world_laws.specs.Seats.{meaning}
 use Rattle.lunatic_cli.specs.Resting.{rounds_left}
 use Rattle.lunatic_cli.specs.Times.{AreBetween, time_beside}
 use Rattle.lunatic_cli.proofs.Clocks.{between-none, between-given, times-ended, times-round}
+use Rattle.lunatic_cli.specs.Entering.{taken_by, EntersAll}
+use Rattle.lunatic_cli.proofs.Entered.{enters-none, takes-ended, takes-round}
 use Rattle.lunatic_cli.proofs.Rounds.{nobody-out}
 use Rattle.lunatic_cli.proofs.Steps.{rest-reserved, rest-starved, entries-starved, rest-stuck, entries-stuck, way-is, fits-given, rest-round, fewer-round, left-reserved}
 use Rattle.lunatic_cli.proofs.alone.go_round.Goals as goal
@@ -29,6 +31,11 @@ returns-then-is_err-clause-times g c =
     let more = entries-starved c.reserve_turn.new.self c.starve.new.self (world_of c.reserve_turn.new.self).over refl c.starve.ensures.over c.starve.ensures.recorded in
     ([], times-ended c.args.node.now.book.entries c.reserve_turn.new.self.book.entries c.starve.new.self.book.entries more.0 (Starve 0) c.reserve_turn.ensures.kept.entries more.1 more.2 refl, between-none _ _)
 
+pub returns-then-is_err-clause-entered : goal.returns-then-is_err-clause-entered
+returns-then-is_err-clause-entered g c =
+    let more = entries-starved c.reserve_turn.new.self c.starve.new.self (world_of c.reserve_turn.new.self).over refl c.starve.ensures.over c.starve.ensures.recorded in
+    ([], takes-ended c.args.node.now.book.entries c.reserve_turn.new.self.book.entries c.starve.new.self.book.entries more.0 (Starve 0) c.reserve_turn.ensures.kept.entries more.1 more.2 refl, enters-none _)
+
 -- the run is over
 
 pub returns-in-Over-clause-rest : goal.returns-in-Over-clause-rest
@@ -41,6 +48,11 @@ pub returns-in-Over-clause-times : goal.returns-in-Over-clause-times
 returns-in-Over-clause-times g c =
     let more = entries-stuck c.reserve_turn.new.self c.take.new.self (world_of c.reserve_turn.new.self).over refl c.in-Over.ensures.taken.was_over c.in-Over.ensures.taken.was_going in
     ([], times-ended c.args.node.now.book.entries c.reserve_turn.new.self.book.entries c.take.new.self.book.entries more.0 (Stall 0) c.reserve_turn.ensures.kept.entries more.1 more.2 refl, between-none _ _)
+
+pub returns-in-Over-clause-entered : goal.returns-in-Over-clause-entered
+returns-in-Over-clause-entered g c =
+    let more = entries-stuck c.reserve_turn.new.self c.take.new.self (world_of c.reserve_turn.new.self).over refl c.in-Over.ensures.taken.was_over c.in-Over.ensures.taken.was_going in
+    ([], takes-ended c.args.node.now.book.entries c.reserve_turn.new.self.book.entries c.take.new.self.book.entries more.0 (Stall 0) c.reserve_turn.ensures.kept.entries more.1 more.2 refl, enters-none _)
 
 -- somebody else has it: there is nobody else
 
@@ -101,4 +113,13 @@ returns-in-Proc-clause-times g c =
       time_beside given.0,
       times-round c.args.node.now.book.entries c.reserve_turn.new.self.book.entries c.take.new.self.book.entries c.give.new.self.book.entries (Take 0 c.in-Proc.proc.start.pid) (Give 0 turn.proc.start.pid turn.calls turn.proc.fuel turn.halt given.0) c.reserve_turn.ensures.kept.entries c.in-Proc.ensures.taken.recorded.entries given.2.1.entries refl,
       subst (λ (clock : Option ℕ). AreBetween (g.O.Outside.clock c.args.outside.now) clock (time_beside given.0)) (sym stays) between,
+    )
+
+pub returns-in-Proc-clause-entered : goal.returns-in-Proc-clause-entered
+returns-in-Proc-clause-entered g c =
+    let turn = c.turn-turn.result in
+    let given = c.give.ensures.given in (
+      taken_by (Take 0 c.in-Proc.proc.start.pid),
+      takes-round c.args.node.now.book.entries c.reserve_turn.new.self.book.entries c.take.new.self.book.entries c.give.new.self.book.entries (Take 0 c.in-Proc.proc.start.pid) (Give 0 turn.proc.start.pid turn.calls turn.proc.fuel turn.halt given.0) c.reserve_turn.ensures.kept.entries c.in-Proc.ensures.taken.recorded.entries given.2.1.entries refl,
+      subst (λ (told : Option (List ℕ)). EntersAll (g.O.Outside.entered c.args.outside.now) told (taken_by (Take 0 c.in-Proc.proc.start.pid))) (sym c.turn-turn.ensures.entered) c.enter.ensures.entered,
     )

@@ -5,6 +5,8 @@ use Rattle.journal.specs.Runs.{told}
 use Rattle.process_table.specs.Seen.{setting_of, world_of}
 use Rattle.lunatic_cli.specs.Times.{times_of}
 use Rattle.lunatic_cli.proofs.Clocks.{between-none, between-both, not-back-refl, not-back-then}
+use Rattle.lunatic_cli.specs.Entering.{takes_of}
+use Rattle.lunatic_cli.proofs.Entered.{enters-none, enters-both}
 use Rattle.lunatic_cli.proofs.Rounds.{all-home}
 use Rattle.lunatic_cli.proofs.Steps.{rest-first, ended-over, same-then}
 use Rattle.lunatic_cli.proofs.alone.run_alone.Goals as goal
@@ -14,6 +16,7 @@ loop-alloc-init g c = record {
   same = record { programs = refl; live = refl; idle = refl; births = refl };
   rest = rest-first g.E.Engine.begin g.E.Engine.at c.args.node c.requires;
   times = rw c.requires (between-none _ _);
+  entered = rw c.requires (enters-none _);
   clock = not-back-refl _;
   faults = omega arith;
   waits = omega arith;
@@ -28,6 +31,7 @@ loop-alloc-preserved g c =
       same = same-then c.args.node c.loop-alloc.node c.go_round.new.node before.same round.same;
       rest = round.rest;
       times = rw round.times.1 (between-both _ _ _ (times_of c.loop-alloc.node.book.entries) round.times.0 before.clock round.clock before.times round.times.2);
+      entered = rw round.entered.1 (enters-both _ _ _ (takes_of c.loop-alloc.node.book.entries) round.entered.0 before.entered round.entered.2);
       clock = not-back-then _ _ _ before.clock round.clock;
       faults = omega (arith, before.faults, round.faults);
       waits = omega (arith, before.waits, round.waits);
@@ -55,6 +59,12 @@ returns-clause-times g c =
     let before = c.loop-alloc.invariant in
     let round = c.go_round.ensures in
     rw (c.close.ensures.journal, round.times.1) (between-both _ _ _ (times_of c.loop-alloc.node.book.entries) round.times.0 before.clock round.clock before.times round.times.2)
+
+pub returns-clause-entered : goal.returns-clause-entered
+returns-clause-entered g c =
+    let before = c.loop-alloc.invariant in
+    let round = c.go_round.ensures in
+    rw (c.close.ensures.journal, round.entered.1) (enters-both _ _ _ (takes_of c.loop-alloc.node.book.entries) round.entered.0 before.entered round.entered.2)
 
 pub returns-clause-clock : goal.returns-clause-clock
 returns-clause-clock g c = not-back-then _ _ _ c.loop-alloc.invariant.clock c.go_round.ensures.clock
