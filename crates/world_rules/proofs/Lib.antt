@@ -1,0 +1,10 @@
+mod Worked
+mod WorkedMail
+mod WorkedKill
+mod WorkedLinks
+mod WorkedTime
+mod WorkedRegistry
+mod WorkedSpawn
+mod WorkedStreams
+mod WorkedGives
+mod WorkedCosts

@@ -1,0 +1,17 @@
+//! The rules of the world: many processes, all host calls, as one thread would perform them.
+//!
+//! Here stand the types of a journal's entries and, in `specs/`, every definition of the world: what a process keeps for
+//! itself, how a request is judged, what each call answers, which entries are allowed, what an entry makes of the world,
+//! what a whole journal tells, and the text that it determines. There is no code beside the types; `laws`
+//! has what is proved of the definitions.
+#![tactic(auto)]
+
+mod entry;
+mod halt;
+mod laws;
+mod life;
+
+pub use entry::{Entry, Side};
+pub use halt::{End, Halt, HostFault};
+pub use laws::{allowed_untested, carry, next_extends, told_extends};
+pub use life::{Birth, Ended};
