@@ -1,0 +1,10 @@
+pub mod Flat
+pub mod Text
+pub mod Values
+pub mod Ends
+pub mod Tells
+pub mod Straight
+pub mod Control
+pub mod Mapping
+pub mod Branches
+pub mod Calls
