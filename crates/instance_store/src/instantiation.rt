@@ -21,10 +21,10 @@ use wasm_form::Module;
 /// and the functions to be entered, the start function before the entry. The first of `NoExport`, `BadParams`,
 /// `PagesOver` and `SegmentOut` that applies refuses it, before any memory is taken; `NoMemory` comes where none does.
 pub fn instantiate(alloc: Global, valid: &Valid, start: &Start) -> Result<Store, StartRefusal>
-    ensures begins { IfOk result (λ store. begin valid.now start.now ≡ None) }
-    ensures made { IfOk result (λ store. config_of store ≡ instance_of valid.now start.now) }
-    ensures refused { IfErr result (λ why. why ≢ StartRefusal.NoMemory → begin valid.now start.now ≡ Some why) }
-    ensures wants { IfErr result (λ why. why ≡ StartRefusal.NoMemory → begin valid.now start.now ≡ None) }
+    ensures begins { IfOk result (λ store. begin valid.now.parts start.now ≡ None) }
+    ensures made { IfOk result (λ store. config_of store ≡ instance_of valid.now.parts start.now) }
+    ensures refused { IfErr result (λ why. why ≢ StartRefusal.NoMemory → begin valid.now.parts start.now ≡ Some why) }
+    ensures wants { IfErr result (λ why. why ≡ StartRefusal.NoMemory → begin valid.now.parts start.now ≡ None) }
 {
     let module = valid.module();
     if let Some(why) = refusal(module, start) {

@@ -7,3 +7,4 @@ pub mod Names
 pub mod Order
 pub mod Counts
 pub mod LocalsAt
+pub mod HostCalls

@@ -3,3 +3,5 @@ pub mod Answers
 pub mod Order
 pub mod Sizes
 pub mod Constants
+pub mod Calls
+pub mod ValidModule

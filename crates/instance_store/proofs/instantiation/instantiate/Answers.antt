@@ -8,5 +8,5 @@ use Rattle.instance_store.proofs.instantiation.instantiate.Goals as goal
 pub returns-in-Some-clause-wants : goal.returns-in-Some-clause-wants
 returns-in-Some-clause-wants c = λ e.
     let start = c.args.start.now in
-    absurd (begin_wants_no_memory c.args.valid.now start
+    absurd (begin_wants_no_memory c.args.valid.now.parts start
     (sym (ap (λ (why : StartRefusal). Some why) (sym e) ∙ c.in-Some.ensures ∙ ap (λ (m : Parts). begin m start) c.module-module.ensures.is)))
