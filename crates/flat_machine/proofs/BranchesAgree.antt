@@ -214,7 +214,7 @@ module _ (m : Parts) (maps : List BodyMap) (c : Config) (place : Place) (callers
       e ∙ ap (λ (l : List ℕ). pre ++ l) (append_assoc operands (operands_with k.under ks) foot) ∙ sym (append_assoc pre operands (operands_with k.under ks ++ foot)) in
       branch_follows l labels after (t.height + left_by k.label) afters ks k.under low values (pre ++ operands) lists.1 mapped.1 (shorter l k ks outer_mapped goes) top split goes
 
-branch_same : (l : ℕ) (f : Frame) (rest : Code) (k : Cont) (ks : List Cont) → branch_in l f (cont_with rest k ∷ ks) ≡ branch_in l f (k ∷ ks)
+pub branch_same : (l : ℕ) (f : Frame) (rest : Code) (k : Cont) (ks : List Cont) → branch_in l f (cont_with rest k ∷ ks) ≡ branch_in l f (k ∷ ks)
 branch_same zero f rest k ks = refl
 branch_same (suc l) f rest k ks = refl
 

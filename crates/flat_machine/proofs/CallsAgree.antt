@@ -42,7 +42,7 @@ use Rattle.flat_machine.proofs.Counts.{call_type}
 use Rattle.flat_machine.proofs.StraightFollows.{next_mapped, LeadsAt, leads_in}
 use Rattle.flat_machine.proofs.ConditionalBranches.{later_stands}
 
-turned_with : (z : ℕ) (n : ℕ) → reverse (replicate n z) ≡ replicate n z
+pub turned_with : (z : ℕ) (n : ℕ) → reverse (replicate n z) ≡ replicate n z
 turned_with z zero = refl
 turned_with z (suc n) =
     let step : reverse (z ∷ replicate n z) ≡ reverse (replicate n z) ++ z ∷ [] = reverse-append (z ∷ []) (replicate n z) in
@@ -50,7 +50,7 @@ turned_with z (suc n) =
     step ∙ ap (λ (l : List ℕ). l ++ z ∷ []) (turned_with z n) ∙ replicate_more n z ∙ ap (λ (k : ℕ). replicate k z) next
 
 -- the frame of a function that is entered, mapped
-entered_mapped : (m : Parts) (maps : List BodyMap) (function : Function) (body base opens : ℕ) (arguments : List ℕ) → IsMappedFunction m maps function body →
+pub entered_mapped : (m : Parts) (maps : List BodyMap) (function : Function) (body base opens : ℕ) (arguments : List ℕ) → IsMappedFunction m maps function body →
     length arguments ≡ length function.ty.params →
     FrameMapped m maps 0 (record { pc = 0; body = body; base = base; opens = opens }) (frame_of function arguments)
 entered_mapped m maps function body base opens arguments is count =

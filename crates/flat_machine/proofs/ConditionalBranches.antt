@@ -40,15 +40,15 @@ use Rattle.flat_machine.proofs.Counts.{if_counts}
 use Rattle.flat_machine.proofs.StraightFollows.{next_mapped, LeadsAt, leads_in}
 
 -- a number is 0 or not
-zero_cases : (number : ℕ) → (number ≡ 0) ⊎ (number ≢ 0)
+pub zero_cases : (number : ℕ) → (number ≡ 0) ⊎ (number ≢ 0)
 zero_cases zero = inl refl
 zero_cases (suc n) = inr (λ w. absurd (omega (arith, w)))
 
-not_zero : (number : ℕ) → number ≢ 0 → nat_eq number 0 ≡ false
+pub not_zero : (number : ℕ) → number ≢ 0 → nat_eq number 0 ≡ false
 not_zero number h = ne_eqb number 0 h
 
 -- the target of a br_table by the number
-entry_is : (labels : List ℕ) (n last : ℕ) → slice_get (labels ++ last ∷ []) (min n (length labels)) ≡ Some (slice_index_or labels n last)
+pub entry_is : (labels : List ℕ) (n last : ℕ) → slice_get (labels ++ last ∷ []) (min n (length labels)) ≡ Some (slice_index_or labels n last)
 entry_is [] n last = ap (λ (x : ℕ). slice_get (last ∷ []) x) (let same : min n 0 ≡ 0 = omega arith in same)
 entry_is (x ∷ labels) zero last = ap (λ (k : ℕ). slice_get (x ∷ (labels ++ last ∷ [])) k) (let same : min 0 (suc (length labels)) ≡ 0 = omega arith in same)
 entry_is (x ∷ labels) (suc n) last =
@@ -66,7 +66,7 @@ unfolding sort_of immediates_of
 table_sort first count last = refl
 
 -- a br_table
-table_comes : (first count last : ℕ) (code : Code) → HasInstrs code → BeginsWith (table_instr first count last) code →
+pub table_comes : (first count last : ℕ) (code : Code) → HasInstrs code → BeginsWith (table_instr first count last) code →
     (labels : List ℕ) × (rest : Code) × (code ≡ TableOf labels last rest) × (count ≡ length labels)
 table_comes first count last Empty h (inl e) = let c : 0x0E ≡ 0x0B = code_of (table_instr first count last) end_instr e in absurd (omega (arith, c))
 table_comes first count last Empty h (inr e) = let c : 0x0E ≡ 0x05 = code_of (table_instr first count last) else_instr e in absurd (omega (arith, c))

@@ -106,7 +106,7 @@ end_after e pc stop after place at (inr (other, closed, is)) =
     (λ (w : 0x0B ≡ 0x05). absurd (omega (arith, w))))
 
 -- one that ends with an else goes on at its target
-else_leads : (e : Expr) (map : BodyMap) (pc stop after : ℕ) (t : Target) → stop ≡ pc + 0 → IsAt e pc else_instr →
+pub else_leads : (e : Expr) (map : BodyMap) (pc stop after : ℕ) (t : Target) → stop ≡ pc + 0 → IsAt e pc else_instr →
     IsAt e stop end_instr ⊎ (HasTarget map stop t × (t.to ≡ after)) → HasTarget map pc t × (t.to ≡ after)
 else_leads e map pc stop after t place at (inl closed) =
     let same : pc ≡ stop = omega arith in

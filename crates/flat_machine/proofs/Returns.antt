@@ -34,7 +34,7 @@ closed_within e stop after (inl (closed, is)) = slice_get_within e.code stop end
 closed_within e stop after (inr (other, closed, is)) = slice_get_within e.code stop else_instr closed
 
 -- where the code is over no list is left
-none_left : (e : Expr) (pc : ℕ) (afters : List ℕ) (ks : List Cont) → pc ≡ length e.code → ListsStand e pc afters ks → ks ≡ []
+pub none_left : (e : Expr) (pc : ℕ) (afters : List ℕ) (ks : List Cont) → pc ≡ length e.code → ListsStand e pc afters ks → ks ≡ []
 none_left e pc afters [] over lists = refl
 none_left e pc [] (k ∷ ks) over lists = absurd lists
 none_left e pc (after ∷ afters) (k ∷ ks) over lists =
@@ -43,7 +43,7 @@ none_left e pc (after ∷ afters) (k ∷ ks) over lists =
     absurd (omega arith)
 
 -- while lists are left the results hang on no operands
-results_stay : (a b : List ℕ) (ks : List Cont) → 0 < length ks → results_from a ks ≡ results_from b ks
+pub results_stay : (a b : List ℕ) (ks : List Cont) → 0 < length ks → results_from a ks ≡ results_from b ks
 results_stay a b [] some = absurd (omega (arith, some))
 results_stay a b (k ∷ ks) some = results_same a b k k ks refl
 

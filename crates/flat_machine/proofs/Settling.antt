@@ -39,11 +39,11 @@ entered_same m c frames (i ∷ rest) =
     (record c { invocations = rest; frames = [] }) p)
     (entered_same m c frames rest)
 
-left_same : (c : Config) (frames others : List Frame) (goes : Point) → unless_left others (with_frames frames c) goes ≡ unless_left others c goes
+pub left_same : (c : Config) (frames others : List Frame) (goes : Point) → unless_left others (with_frames frames c) goes ≡ unless_left others c goes
 left_same c frames [] goes = refl
 left_same c frames (f ∷ below) goes = refl
 
-settles_to : (m : Parts) (c : Config) (frames : List Frame) →
+pub settles_to : (m : Parts) (c : Config) (frames : List Frame) →
     settle m (with_frames frames c) ≡ unless_left (settled frames) c (enter_next m c c.invocations)
 unfolding settle
 settles_to m c frames =

@@ -8,3 +8,13 @@ pub mod Control
 pub mod Mapping
 pub mod Branches
 pub mod Calls
+pub mod Moves
+pub mod Runs
+pub mod Shown
+pub mod Halts
+pub mod MappedModule
+pub mod Waiting
+pub mod Called
+pub mod Entering
+pub mod MovesAgree
+pub mod Stands

@@ -34,7 +34,7 @@ use Rattle.tree_machine.specs.Functions.{Function, own_function}
 use Rattle.tree_machine.specs.Config.{Invocation, bytes_of}
 use Rattle.tree_machine.specs.Instantiation.{value_of, most_pages, memory_with, new_memory, lies_in, segments_lie_in, put_segment}
 use Rattle.tree_machine.specs.Begin.{entry_of, has_params, least_pages, refusal_of, begin, invocation, invocations_of, instance_of, begun}
-use Rattle.tree_machine.specs.Typed.{AreValues, IsTypedMemory, MemoryTyped, InvocationTyped, InvocationsTyped, IsTypedAt, IsTypedModule, Offers, offered_type}
+use Rattle.tree_machine.specs.Typed.{AreValues, IsTypedMemory, MemoryTyped, InvocationTyped, InvocationsTyped, IsTyped, IsTypedAt, IsTypedModule, Offers, offered_type}
 use Rattle.tree_machine.proofs.ExitsTyped.{enter_keeps}
 use Rattle.tree_machine.proofs.CallTyped.{same_values}
 use Rattle.tree_machine.proofs.MemoryTyped.{length-written, written_typed}
@@ -137,6 +137,10 @@ is_begun : (m : Parts) (start : Start) → begin m start ≡ None → IsBegun m 
 unfolding begin
 is_begun m start h = begun_by m start (entry_of m start.entry) (option_and_then (own_function m) (entry_of m start.entry)) refl refl h
 
+-- where the begin is not refused the module has a function of its own
+pub entry_is : (m : Parts) (start : Start) → begin m start ≡ None → (index : ℕ) × (function : Function) × (own_function m index ≡ Some function)
+entry_is m start h = let is = is_begun m start h in (is.index, is.function, is.own)
+
 segments_judged : (limit : ℕ) (m : Parts) → segments_lie_in limit m ≡ true →
     list_all (segment_test (length (bytes_of (new_memory limit m)))) m.segments ≡ true
 unfolding segments_lie_in
@@ -219,12 +223,11 @@ module _ (host : Host) (m : Parts) (offers : Offers host) (accepted : IsAccepted
   starts_typed None h rest typed = typed
   starts_typed (Some function) h rest typed = (start_typed function h, typed)
 
-  -- the begin of a run
-  pub begun_typed : (start : Start) → start.limits.pages ≤ 1024 →
+  -- the configuration that instantiation makes, where the begin is not refused
+  pub instance_typed : (start : Start) → start.limits.pages ≤ 1024 →
       AreValues (map (λ (p : TypedValue). value_type p.num) start.params) (map (λ (p : TypedValue). p.value) start.params) →
-      begin m start ≡ None → IsTypedAt m (begun m start).state (begun m start).config
-  unfolding begun
-  begun_typed start small values h =
+      begin m start ≡ None → IsTyped m [] (instance_of m start)
+  instance_typed start small values h =
       let is = is_begun m start h in
       let types = same_values (map (λ (p : TypedValue). value_type p.num) start.params) is.function.ty.params is.params in
       let arguments : AreValues is.function.ty.params (map (λ (p : TypedValue). p.value) start.params) =
@@ -233,11 +236,19 @@ module _ (host : Host) (m : Parts) (offers : Offers host) (accepted : IsAccepted
       subst (λ (o : Option ℕ). InvocationsTyped m (map (invocation (map (λ (p : TypedValue). p.value) start.params)) (option_to_list o))) (sym is.entry)
       ((is.function, is.own, arguments), tt) in
       let none = no_globals m.imports (accepted.inside FunctionsAlone) in
-      enter_keeps m module_typed (instance_of m start) (invocations_of m start) (record {
+      record {
         globals = globals_typed m none (globals_spelled m spelled) (accepted.valid.rules ConstantGlobals);
         table = table_known m runnable (accepted.valid.rules FunctionTypes) (accepted.valid.rules Elements);
         memory = memory_begun m start.limits.pages (slice_get (memories_of m) 0) refl small is.pages (accepted.valid.rules Limits).memories
             (segments_judged start.limits.pages m is.segments) (segments_spelled m spelled);
         invocations = starts_typed m.start (accepted.valid.rules rules.Start) _ entries;
         frames = tt;
-      })
+      }
+
+  -- the begin of a run
+  pub begun_typed : (start : Start) → start.limits.pages ≤ 1024 →
+      AreValues (map (λ (p : TypedValue). value_type p.num) start.params) (map (λ (p : TypedValue). p.value) start.params) →
+      begin m start ≡ None → IsTypedAt m (begun m start).state (begun m start).config
+  unfolding begun
+  begun_typed start small values h =
+      enter_keeps m module_typed (instance_of m start) (invocations_of m start) (instance_typed start small values h)

@@ -29,11 +29,11 @@ same_memory m None h = h
 same_memory m (Some memory) h = h
 
 -- what a write of some bytes leaves: as many bytes, and a typed memory
-record IsWritten (m : Parts) (memory : Option Contents) (result : Option (List ℕ)) : Type 0 where
-  bytes : List ℕ
-  there : result ≡ Some bytes
-  size : length bytes ≡ length (bytes_of memory)
-  typed : MemoryTyped m (with_bytes bytes memory)
+pub record IsWritten (m : Parts) (memory : Option Contents) (result : Option (List ℕ)) : Type 0 where
+  pub bytes : List ℕ
+  pub there : result ≡ Some bytes
+  pub size : length bytes ≡ length (bytes_of memory)
+  pub typed : MemoryTyped m (with_bytes bytes memory)
 
 not_written : (m : Parts) (memory : Option Contents) → MemoryTyped m memory → IsWritten m memory (Some (bytes_of memory))
 not_written m memory typed = record { bytes = bytes_of memory; there = refl; size = refl; typed = same_memory m memory typed }
@@ -111,7 +111,7 @@ bytes_with bytes None same = no_bytes bytes same
 bytes_with bytes (Some memory) same = refl
 
 -- a text and a word are written one after the other
-both_written : (m : Parts) (memory : Option Contents) → MemoryTyped m memory → (ask : Ask) (reply : Reply) → areas_fit (bytes_of memory) ask ≡ true →
+pub both_written : (m : Parts) (memory : Option Contents) → MemoryTyped m memory → (ask : Ask) (reply : Reply) → areas_fit (bytes_of memory) ask ≡ true →
     WritesAsCalled ask reply.result reply.word reply.text → IsWritten m memory (option_and_then (write_word reply.word) (write_text reply.text (bytes_of memory)))
 both_written m memory typed ask reply fits is =
     let fit = writes_fit (bytes_of memory) ask fits in
@@ -128,7 +128,7 @@ both_written m memory typed ask reply fits is =
       typed = subst (MemoryTyped m) (with_again first.bytes next.bytes memory) next.typed;
     }
 
-pushed_typed : (m : Parts) (given : List ValType) (result : Option ℕ) (frames : List Frame) → FramesTyped m given frames →
+pub pushed_typed : (m : Parts) (given : List ValType) (result : Option ℕ) (frames : List Frame) → FramesTyped m given frames →
     AreValues given (option_to_list result) → FramesTyped m [] (push_result result frames)
 pushed_typed m given result [] typed h = tt
 pushed_typed m given result (f ∷ below) typed h =

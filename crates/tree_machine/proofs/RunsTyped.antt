@@ -45,7 +45,7 @@ use Rattle.tree_machine.proofs.ReplyTyped.{reply_kept}
 use Rattle.tree_machine.proofs.BeginTyped.{IsHostImport, imports_hosted, module_typed, begun_typed, function_is}
 
 -- a result that the call of a row may give is of the row's type
-abbrev GivesTyped : Row → Type 0
+abbrev pub GivesTyped : Row → Type 0
 GivesTyped row = (result : Option ℕ) → IsResult (Some row.results) result → AreValues (reverse (offered_type row).results) (option_to_list result)
 
 two_true : (a b : Bool) → (a && b) ≡ true → (a ≡ true) × (b ≡ true)
@@ -94,7 +94,7 @@ results_typed None results gives result h = no_result results gives result h
 results_typed (Some nums.I32) results gives result h = one_value types.I32 (2 ^ 32) result (λ n less. less) (result_below (2 ^ 32) results gives result h)
 results_typed (Some nums.I64) results gives result h = one_value types.I64 (2 ^ 64) result (λ n less. less) (result_below (2 ^ 64) results gives result h)
 
-row_gives : (row : Row) → IsSoundRow row → GivesTyped row
+pub row_gives : (row : Row) → IsSoundRow row → GivesTyped row
 row_gives row sound = results_typed row.result row.results sound.results
 
 -- a host call of a module, by its import and its row
