@@ -1,0 +1,16 @@
+pub mod StackFacts
+pub mod Moving
+pub mod Halting
+pub mod Tops
+pub mod Places
+pub mod Codes
+pub mod Arrivals
+pub mod Targets
+pub mod Branching
+pub mod Passing
+pub mod Raising
+pub mod Straights
+pub mod Counting
+pub mod Calling
+pub mod Running
+pub mod Turns
