@@ -1,4 +1,7 @@
-pub mod Stacks
-pub mod Codes
-pub mod Lines
-pub mod Running
+pub mod Passed
+pub mod Bridge
+pub mod Halted
+pub mod Steps
+pub mod Ends
+pub mod TypedParams
+pub mod Starts

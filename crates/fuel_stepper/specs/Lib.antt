@@ -1,7 +1,4 @@
-pub mod Stack
-pub mod Line
-pub mod Progress
-pub mod Effect
-pub mod Instance
-pub mod SmallRuns
-pub mod SmallRunLaws
+pub mod First
+pub mod Stages
+pub mod Life
+pub mod laws

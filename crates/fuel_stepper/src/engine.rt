@@ -1,125 +1,126 @@
-use crate::{Instance, SmallModule, Stop as LineStop};
-use host_port::{Ask, Engine, Reply, Spent, Start, StartRefusal, Stop};
+use crate::first::{first_results, first_size, is_typed};
+use crate::telling::told;
+use crate::{Instance, Stage, contents};
+use flat_stepper::{Machine, Place};
+use host_port::{Engine, Reply, Start, StartRefusal, Stop};
+use instance_store::instantiate;
+use module_validator::Valid;
 use std::alloc::Global;
 use std::sync::Arc;
 
-/// The name under which a small module exports its function.
-const EXPORTED_NAME: &[u8] = b"_start";
+impl Engine for Instance {
+    type Program = Valid;
 
-/// An engine that executes a small module. It has no memory and asks nothing.
-///
-/// A start is refused with `NoExport` exactly where the entry is another name than `_start`, then with `BadParams`
-/// exactly where there is a parameter, and else for want of memory alone.
-#[derive(Drop)]
-pub struct SmallInstance {
-    /// The line of instructions, and how far it was executed.
-    line: Instance,
-    /// How much fuel is left.
-    fuel_left: u64,
-    /// A step has answered the end of the life.
-    over: bool,
-    /// The ask that is owed. A small module asks nothing, so no run has one.
-    owed: Option<Ask>,
-}
+    ghost use Rattle.std.specs.Prelude.{ℕ, List};
+    ghost use Rattle.tree_machine.specs.Config.{bytes_of};
+    ghost use Rattle.tree_machine.specs.Begin as begins;
+    ghost use Rattle.tree_machine.specs.Run as runs;
+    ghost use Rattle.tree_machine.specs.RunLaws as run_laws;
+    ghost use Rattle.tree_machine.specs.AskLaws as ask_laws;
+    ghost use Rattle.fuel_stepper.specs.Stages.{phase_of};
+    ghost use Rattle.fuel_stepper.specs.Life.{StandsIn};
+    ghost use Rattle.fuel_stepper.specs.laws.StandingLaws as standing_laws;
 
-impl Engine for SmallInstance {
-    type Program = SmallModule;
+    ghost begin = { λ valid start. begins.begin valid.parts start };
 
-    ghost use Rattle.std.specs.Prelude.{◌≡◌, ℕ, None, Option, List, []};
-    ghost use Rattle.fuel_stepper.specs.SmallRuns.{small_begin, small_at, Follows, phase_at};
-    ghost use Rattle.fuel_stepper.specs.SmallRunLaws as run_laws;
+    ghost at = { λ valid start calls fuel. runs.at valid.parts start calls fuel };
 
-    ghost begin = { λ _ start. small_begin start };
+    ghost may_ask = { λ valid call. runs.may_ask valid.parts call };
 
-    ghost at = { small_at };
+    ghost stands = { λ engine valid start calls fuel. StandsIn valid start calls fuel engine };
 
-    ghost may_ask = { λ _ _. ⊥ };
+    ghost phase = { λ engine. phase_of engine.stage };
 
-    ghost stands = { λ engine list start calls fuel.
-        Follows list start calls fuel engine.line engine.fuel_left engine.owed };
+    ghost memory = { λ engine. bytes_of engine.machine.memory };
 
-    ghost phase = { λ engine. phase_at engine.over engine.owed };
-
-    ghost memory = { λ _. [] };
-
-    fn start(
-        alloc: Global,
-        program: &Arc<SmallModule>,
-        start: &Start,
-    ) -> Result<Self, StartRefusal> {
-        if start.entry.as_slice() != EXPORTED_NAME {
-            return Err(StartRefusal::NoExport);
-        }
-        if !start.params.is_empty() {
-            return Err(StartRefusal::BadParams);
-        }
+    fn start(alloc: Global, program: &Arc<Valid>, start: &Start) -> Result<Self, StartRefusal> {
+        let store = instantiate(alloc, program, start)?;
         let Ok(program) = Arc::try_clone(program) else {
             return Err(StartRefusal::NoMemory);
         };
-        let Ok(line) = Instance::begin(alloc, program) else {
+        is_typed(start);
+        let valid: &Valid = &program;
+        let parts = valid.parts();
+        let map = valid.map();
+        let first = Place {
+            pc: first_size(parts),
+            body: 0,
+            base: 0,
+            opens: 0,
+        };
+        let results = first_results(parts, map);
+        let Ok(mut machine) = Machine::new(alloc, first, results, store) else {
             return Err(StartRefusal::NoMemory);
         };
-        Ok(SmallInstance {
-            line,
+        let (halt, _) = machine.run(parts, map, 0);
+        Ok(Instance {
+            program,
+            machine,
             fuel_left: start.limits.fuel(),
-            over: false,
-            owed: None,
+            stage: Stage::behind(halt),
         })
     }
 
     fn step(&mut self, budget: u64) -> (Stop, u64) {
-        let (end, executed) = self.line.step(budget.min(self.fuel_left));
+        if let Stage::Ended(end) = self.stage {
+            let stop = end.stop();
+            self.stage = Stage::Over(stop);
+            return (stop, 0);
+        }
+        let valid: &Valid = &self.program;
+        let most = budget.min(self.fuel_left);
+        let parts = valid.parts();
+        let map = valid.map();
+        let (halt, executed) = self.machine.run(parts, map, most);
         self.fuel_left -= executed;
-        let stop = match end {
-            LineStop::Done => Stop::Done,
-            LineStop::Slice if executed < budget => Stop::Spent(Spent::Fuel),
-            LineStop::Slice => Stop::Slice,
-        };
-        self.over = !matches!(stop, Stop::Slice);
+        let stop = told(halt, executed < budget);
+        self.stage = Stage::after(stop);
         (stop, executed)
     }
 
-    fn answer(&mut self, _reply: &Reply) {
-        self.owed = None;
+    fn answer(&mut self, reply: &Reply) {
+        let valid: &Valid = &self.program;
+        let parts = valid.parts();
+        let map = valid.map();
+        self.machine.resume(reply);
+        let (halt, _) = self.machine.run(parts, map, 0);
+        self.stage = Stage::behind(halt);
     }
 
     fn read(&self, addr: u32, len: u32) -> Option<&[u8]> {
-        if addr == 0 && len == 0 {
-            Some(&[])
-        } else {
-            None
-        }
+        contents::read(&self.machine, addr, len)
     }
 
     fn pages(&self) -> u32 {
-        0
+        contents::pages(&self.machine)
     }
 
     fn mark(&self) -> u64 {
-        0
+        contents::mark(&self.machine)
     }
 
     fn done(&self) -> bool {
-        self.line.is_done()
+        self.stage.is_at_end()
     }
 
-    ghost begin_wants_no_memory = { λ _ start. run_laws.begin_wants_no_memory start };
+    ghost begin_wants_no_memory = { λ valid start. run_laws.begin_wants_no_memory valid.parts start };
 
-    ghost begun_has_a_run = { λ list start begun. run_laws.begun_has_a_run list start begun };
+    ghost begun_has_a_run = { λ valid start begun. run_laws.begun_has_a_run valid.parts start begun };
 
-    ghost refused_has_no_run = { λ list start why calls fuel refused.
-        run_laws.refused_has_no_run list start why calls fuel refused };
+    ghost refused_has_no_run = { λ valid start why calls fuel refused.
+        run_laws.refused_has_no_run valid.parts start why calls fuel refused };
 
-    ghost keeps_to_fuel = { λ list start calls fuel. run_laws.keeps_to_fuel list start calls fuel };
+    ghost keeps_to_fuel = { λ valid start calls fuel. run_laws.keeps_to_fuel valid.parts start calls fuel };
 
-    ghost asks_what_it_may = { λ list start calls fuel ask. run_laws.asks_nothing list start calls fuel ask };
+    ghost asks_what_it_may = { λ valid start calls fuel ask.
+        ask_laws.asks_what_it_may valid.parts start calls fuel ask };
 
-    ghost shows_memory = { λ engine list start calls fuel stands.
-        run_laws.shows_memory list start calls fuel engine.line engine.fuel_left engine.owed stands };
+    ghost shows_memory = { λ engine valid start calls fuel stands.
+        standing_laws.shows_memory valid start calls fuel engine stands };
 
-    ghost owes_its_ask = { λ engine list start calls fuel ask stands phase.
-        absurd (run_laws.owes_nothing engine.over engine.owed ask stands.unasked phase) };
+    ghost owes_its_ask = { λ engine valid start calls fuel ask stands phase.
+        standing_laws.owes_its_ask valid start calls fuel engine stands ask phase };
 
-    ghost running_may_step = { λ engine list start calls fuel stands phase.
-        run_laws.may_step list start calls fuel engine.line engine.fuel_left engine.owed stands };
+    ghost running_may_step = { λ engine valid start calls fuel stands phase.
+        standing_laws.may_step valid start calls fuel engine stands phase };
 }

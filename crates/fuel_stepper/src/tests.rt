@@ -1,126 +1,83 @@
-ghost use Rattle.std.specs.Prelude.{IfOk};
-ghost use Rattle.wasm_form.specs.Form.{IsSmallModule};
-
-use crate::{Instance, SmallInstance, SmallModule, Stop};
-use host_port::{
-    Bytes, Engine, Limits, Param, Params, Spent, Start, StartRefusal, Stop as EngineStop,
-};
+use crate::Instance;
+use host_port::{Bytes, Engine, Limits, Params, Reply, Spent, Start, Stop, has_form, resolve};
 use memory_refusal::NoMemory;
+use module_reader::read_module;
+use module_validator::{Valid, accept};
 use std::alloc::Global;
 use std::sync::Arc;
 use std::test::Fail;
-use wasm_form::{Imm, Instr, Instrs, Module, small_module};
-use wasm_ops::Num;
 
-/// A small module with the instructions 1 + 2, dropped.
-fn sum(alloc: Global) -> Result<Module, NoMemory>
-    ensures { IfOk result IsSmallModule }
-{
-    let mut code = Instrs::new(alloc);
-    code.push(Instr {
-        code: 0x41,
-        imm: Imm::I32(1),
-    })?;
-    code.push(Instr {
-        code: 0x41,
-        imm: Imm::I32(2),
-    })?;
-    code.push(Instr {
-        code: 0x6A,
-        imm: Imm::None,
-    })?;
-    code.push(Instr {
-        code: 0x1A,
-        imm: Imm::None,
-    })?;
-    code.push(Instr {
-        code: 0x0B,
-        imm: Imm::None,
-    })?;
-    let module = small_module(alloc, code)?;
-    Ok(module)
+/// `go` sums the numbers from 1 to 10 by a function that adds, in a loop, and stores the sum at 8.
+const SUM: &[u8] = b"\0asm\x01\0\0\0\x01\x0A\x02\x60\0\0\x60\x02\x7F\x7F\x01\x7F\x03\x03\x02\0\x01\
+\x05\x03\x01\0\x01\x07\x06\x01\x02go\0\0\x0A\x2C\x02\x22\x01\x02\x7F\
+\x03\x40\x20\0\x20\x01\x41\x01\x6A\x22\x01\x10\x01\x21\0\x20\x01\x41\x0A\x49\x0D\0\x0B\
+\x41\x08\x20\0\x36\x02\0\x0B\x07\0\x20\0\x20\x01\x6A\x0B";
+
+/// `go` asks for the number of its process, and stores it at 0.
+const NUMBER: &[u8] = b"\0asm\x01\0\0\0\x01\x08\x02\x60\0\0\x60\0\x01\x7E\
+\x02\x1F\x01\x10lunatic::process\x0Aprocess_id\0\x01\x03\x02\x01\0\x05\x03\x01\0\x01\
+\x07\x06\x01\x02go\0\x01\x0A\x0B\x01\x09\0\x41\0\x10\0\x37\x03\0\x0B";
+
+/// The program that these bytes spell.
+fn program(alloc: Global, bytes: &[u8]) -> Result<Arc<Valid>, Fail> {
+    let module = read_module(alloc, bytes).ok().ok_or("not read")?;
+    let valid = accept(alloc, module).ok().ok_or("not accepted")?;
+    Ok(Arc::new(alloc, valid)?)
 }
 
-/// A small module with the instructions 42, dropped.
-fn constant(alloc: Global) -> Result<Module, NoMemory>
-    ensures { IfOk result IsSmallModule }
-{
-    let mut code = Instrs::new(alloc);
-    code.push(Instr {
-        code: 0x41,
-        imm: Imm::I32(42),
-    })?;
-    code.push(Instr {
-        code: 0x1A,
-        imm: Imm::None,
-    })?;
-    code.push(Instr {
-        code: 0x0B,
-        imm: Imm::None,
-    })?;
-    let module = small_module(alloc, code)?;
-    Ok(module)
-}
-
-/// The start of process 1 by this name, with this fuel.
-fn first_start(alloc: Global, entry: &[u8], params: Params, fuel: u64) -> Result<Start, NoMemory> {
-    let mut name = Bytes::new(alloc);
-    for byte in entry {
-        name.push(*byte)?;
-    }
+/// A start at `go` with this fuel.
+fn start(alloc: Global, fuel: u64) -> Result<Start, NoMemory> {
     Ok(Start {
         pid: 1,
         module: 0,
-        entry: name,
-        params,
-        limits: Limits::new(64, fuel, 0),
+        entry: Bytes::from_vec(Vec::from_slice(alloc, b"go")?),
+        params: Params::new(alloc),
+        limits: Limits::new(64, fuel, 1000),
     })
 }
 
 #[test]
-fn a_line_is_executed_in_slices(rt: HostRuntime) -> Result<(), Fail> {
+fn a_loop_with_calls(rt: HostRuntime) -> Result<(), Fail> {
     let alloc = rt.alloc();
-    let mut instance = Instance::of(alloc, sum(alloc)?)?;
-    for want in [(Stop::Slice, 3), (Stop::Done, 1), (Stop::Done, 0)] {
-        assert_eq!(rt; instance.step(3), want);
-    }
-    let mut at_once = Instance::of(alloc, sum(alloc)?)?;
-    assert_eq!(rt; at_once.step(4), (Stop::Done, 4));
-    Ok(())
-}
-
-#[test]
-fn a_start_runs_to_its_end_or_its_fuel(rt: HostRuntime) -> Result<(), Fail> {
-    let alloc = rt.alloc();
-    let program = Arc::new(alloc, SmallModule::of(constant(alloc)?))?;
+    let sum = program(alloc, SUM)?;
     for (fuel, want) in [
-        (1000, (EngineStop::Done, 2)),
-        (2, (EngineStop::Done, 2)),
-        (1, (EngineStop::Spent(Spent::Fuel), 1)),
-        (0, (EngineStop::Spent(Spent::Fuel), 0)),
+        (153, (Stop::Done, 153)),
+        (152, (Stop::Spent(Spent::Fuel), 152)),
     ] {
-        let start = first_start(alloc, b"_start", Params::new(alloc), fuel)?;
-        let mut instance = SmallInstance::start(alloc, &program, &start)
-            .ok()
-            .ok_or("start")?;
-        assert!(rt; !instance.done());
-        assert_eq!(rt; instance.step(10_000), want);
-        assert_eq!(rt; instance.done(), want.0 == EngineStop::Done);
+        let start = start(alloc, fuel)?;
+        let mut engine = Instance::start(alloc, &sum, &start).ok().ok_or("start")?;
+        assert_eq!(rt; engine.step(50), (Stop::Slice, 50));
+        let (stop, executed) = engine.step(1000);
+        assert_eq!(rt; (stop, executed + 50), want);
+        assert_eq!(rt; (engine.pages(), engine.done()), (1, want.0 == Stop::Done));
+        assert_eq!(rt; engine.mark(), if want.0 == Stop::Done { 495 } else { 0 });
     }
     Ok(())
 }
 
 #[test]
-fn another_entry_and_a_parameter_are_refused(rt: HostRuntime) -> Result<(), Fail> {
+fn an_ask(rt: HostRuntime) -> Result<(), Fail> {
     let alloc = rt.alloc();
-    let program = Arc::new(alloc, SmallModule::of(constant(alloc)?))?;
-    let other = first_start(alloc, b"_stop", Params::new(alloc), 1000)?;
-    let refused = SmallInstance::start(alloc, &program, &other).err();
-    assert_eq!(rt; refused, Some(StartRefusal::NoExport));
-    let mut params = Params::new(alloc);
-    params.push(Param::new(Num::I32, 7))?;
-    let given = first_start(alloc, b"_start", params, 1000)?;
-    let refused = SmallInstance::start(alloc, &program, &given).err();
-    assert_eq!(rt; refused, Some(StartRefusal::BadParams));
+    let number = program(alloc, NUMBER)?;
+    let start = start(alloc, 1000)?;
+    let mut engine = Instance::start(alloc, &number, &start).ok().ok_or("start")?;
+    let (stop, executed) = engine.step(1000);
+    let Stop::Asks(ask) = stop else {
+        return Err("no ask".into());
+    };
+    assert_eq!(rt; (ask.call, ask.args, executed), (10, [0; 8], 2));
+    let reply = Reply {
+        result: Some(258),
+        word: None,
+        text: None,
+    };
+    let request = resolve(alloc, &engine, ask)?;
+    if !request.fits || !has_form(&ask, &reply) {
+        return Err("no reply".into());
+    }
+    engine.answer(&reply);
+    assert!(rt; !engine.done());
+    assert_eq!(rt; engine.step(1000), (Stop::Done, 1));
+    assert_eq!(rt; engine.mark(), 4);
     Ok(())
 }
