@@ -3,30 +3,28 @@ use Rattle.std.proofs.Common.{◌≡◌, ◌≢◌, ℕ, ◌≤◌, List, length
 use Rattle.std.specs.Prelude.{IfSome, IfNone}
 use Rattle.outside.specs.Causes.{RoseOrFull, StayedBelow}
 use Rattle.outside.specs.Files.{Contents}
-use Rattle.wasm_form.specs.Small.{SmallInstr}
-use Rattle.wasm_form.specs.Form.{Small}
+use Rattle.host_port.specs.declared.start.StartRefusal.{StartRefusal}
+use Rattle.wasm_form.specs.declared.parts.Parts.{Parts}
+use Rattle.wasm_form.specs.Modules.{Spells}
 use Rattle.wasm_form.specs.Verdict as is
 use Rattle.module_validator.specs.Host.{host}
 use Rattle.module_validator.specs.Answers.{meant_by}
 use Rattle.module_validator.specs.declared.answer.Verdict.{Verdict}
 use Rattle.module_validator.specs.declared.answer.Verdict.TheVariants.{Accepted, Malformed, Outside, Invalid}
-use Rattle.lunatic_cli.specs.File.{file_limit, IsContent, IsUnreadable, TellsUnread, IsUnbuilt, HasVerdict, HasUnbuilt, HasSmall}
+use Rattle.tree_machine.specs.Begin.{begin}
+use Rattle.lunatic_cli.specs.declared.options.Options.{Options}
+use Rattle.lunatic_cli.specs.File.{file_limit, IsContent, IsUnreadable, TellsUnread, HasVerdict, HasModule}
+use Rattle.lunatic_cli.specs.Options.{first_start}
+use Rattle.lunatic_cli.specs.Runs.{Returns}
 use Rattle.lunatic_cli.specs.Writing.{Written}
 use Rattle.lunatic_cli.specs.Checks.{TellsVerdict, CheckCompletes}
-use Rattle.lunatic_cli.specs.Ending.{CompletesRun}
+use Rattle.lunatic_cli.specs.Ending.{RunCompletes}
+use Rattle.lunatic_cli.proofs.Told.{IsTold}
 
 same_bytes : (a b : List ℕ) → Some a ≡ Some b → b ≡ a
 same_bytes a b e = cc
 
 -- a file whose store tells it has one list of bytes
-small_here : (files : Contents) (name bytes : List ℕ) (list : List SmallInstr) → IsContent (Some files) name bytes → HasSmall (Some files) name list → Small bytes list
-small_here files name bytes list is_content small =
-    subst (λ (b : List ℕ). Small b list) (same_bytes bytes small.bytes (sym is_content.told ∙ small.is_content.told)) small.is_small
-
-unbuilt_here : (files : Contents) (name bytes : List ℕ) → IsContent (Some files) name bytes → HasUnbuilt (Some files) name → IsUnbuilt bytes
-unbuilt_here files name bytes is_content unbuilt =
-    subst IsUnbuilt (same_bytes bytes unbuilt.bytes (sym is_content.told ∙ unbuilt.is_content.told)) unbuilt.is_unbuilt
-
 verdict_here : (files : Contents) (name bytes : List ℕ) (said : Verdict) → IsContent (Some files) name bytes → HasVerdict (Some files) name said → is.IsVerdict host bytes (meant_by said)
 verdict_here files name bytes said is_content has =
     subst (λ (b : List ℕ). is.IsVerdict host b (meant_by said)) (same_bytes bytes has.bytes (sym is_content.told ∙ has.is_content.told)) has.is_verdict
@@ -34,41 +32,60 @@ verdict_here files name bytes said is_content has =
 abbrev pub IsAlone : Type 0
 IsAlone = (bytes : List ℕ) (said : Verdict) → is.IsVerdict host bytes is.Accepted → is.IsVerdict host bytes (meant_by said) → said ≡ Accepted
 
-abbrev pub AcceptsSmall : Type 0
-AcceptsSmall = (bytes : List ℕ) (list : List SmallInstr) → Small bytes list → is.IsVerdict host bytes is.Accepted
+abbrev pub IsOne : Type 0
+IsOne = (bytes : List ℕ) (m n : Parts) → Spells bytes m → Spells bytes n → m ≡ n
+
+-- the verdict on a file of an accepted module
+pub accepted_file : (content : Option Contents) (name : List ℕ) (m : Parts) → HasModule content name m → HasVerdict content name Accepted
+accepted_file content name m has = record { bytes = has.bytes; is_content = has.is_content; is_verdict = (m, has.is_spelled, has.is_accepted) }
+
+-- a file whose store tells it has one module
+same_module : IsOne → (files : Contents) (name : List ℕ) (m n : Parts) → HasModule (Some files) name m → HasModule (Some files) name n → m ≡ n
+same_module one files name m n has other =
+    let same : other.bytes ≡ has.bytes = same_bytes has.bytes other.bytes (sym has.is_content.told ∙ other.is_content.told) in
+    one has.bytes m n has.is_spelled (subst (λ (b : List ℕ). Spells b n) same other.is_spelled)
 
 -- a run
 
-pub small_completes : IsAlone → (content : Option Contents) (name : List ℕ) (list : List SmallInstr) (status : ℕ) (file : HasSmall content name list) →
-    is.IsVerdict host file.bytes is.Accepted → (status ≡ 0) ⊎ (status ≡ 8) → IfSome content (λ _. CompletesRun content name status)
-small_completes alone None name list status file accepted s = tt
-small_completes alone (Some files) name list status file accepted s = record {
-  small = λ _ _. s;
-  unbuilt = λ unbuilt. absurd ((unbuilt_here files name file.bytes file.is_content unbuilt).not_small list file.is_small);
-  refused = λ said other has. absurd (other (alone file.bytes said accepted (verdict_here files name file.bytes said file.is_content has)));
+-- what becomes of the run of this module, want of memory aside
+pub record CompletesModule (options : Options) (m : Parts) (status : ℕ) : Type 0 where
+  pub begun : begin m (first_start options) ≡ None → IsTold status
+  pub returned : Returns options m → (status ≡ 0) ⊎ (status ≡ 8)
+  pub unbegun : (why : StartRefusal) → begin m (first_start options) ≡ Some why → (status ≡ 3) ⊎ (status ≡ 8)
+
+pub module_completes : IsAlone → IsOne → (content : Option Contents) (name : List ℕ) (options : Options) (m : Parts) (status : ℕ) → HasModule content name m →
+    CompletesModule options m status → RunCompletes content name options status
+module_completes alone one None name options m status has completes = tt
+module_completes alone one (Some files) name options m status has completes = record {
+  begun = λ n other begun. completes.begun (ap (λ (p : Parts). begin p (first_start options)) (same_module one files name m n has other) ∙ begun);
+  returned = λ n other returns. completes.returned (subst (Returns options) (same_module one files name n m other has) returns);
+  unbegun = λ n why other unbegun. completes.unbegun why (ap (λ (p : Parts). begin p (first_start options)) (same_module one files name m n has other) ∙ unbegun);
+  refused = λ said other refused. absurd (other (alone has.bytes said (m, has.is_spelled, has.is_accepted) (verdict_here files name has.bytes said has.is_content refused)));
 }
 
-pub unbuilt_completes : (content : Option Contents) (name bytes : List ℕ) (status : ℕ) → IsContent content name bytes → IsUnbuilt bytes → status ≡ 3 →
-    IfSome content (λ _. CompletesRun content name status)
-unbuilt_completes None name bytes status is_content unbuilt s = tt
-unbuilt_completes (Some files) name bytes status is_content unbuilt s = record {
-  small = λ list small. absurd (unbuilt.not_small list (small_here files name bytes list is_content small));
-  unbuilt = λ _. inl s;
+refused_not : {A : Type 0} → IsAlone → (files : Contents) (name bytes : List ℕ) (said : Verdict) → IsContent (Some files) name bytes → said ≢ Accepted →
+    is.IsVerdict host bytes (meant_by said) → (m : Parts) → HasModule (Some files) name m → A
+refused_not alone files name bytes said is_content other v m has =
+    absurd (other (alone bytes said (verdict_here files name bytes Accepted is_content (accepted_file (Some files) name m has)) v))
+
+pub refused_completes : IsAlone → (content : Option Contents) (name bytes : List ℕ) (options : Options) (said : Verdict) (status : ℕ) → IsContent content name bytes →
+    said ≢ Accepted → is.IsVerdict host bytes (meant_by said) → status ≡ 3 → RunCompletes content name options status
+refused_completes alone None name bytes options said status is_content other v s = tt
+refused_completes alone (Some files) name bytes options said status is_content other v s = record {
+  begun = λ m has _. refused_not alone files name bytes said is_content other v m has;
+  returned = λ m has _. refused_not alone files name bytes said is_content other v m has;
+  unbegun = λ m why has _. refused_not alone files name bytes said is_content other v m has;
   refused = λ _ _ _. inl s;
 }
 
-pub refused_completes : IsAlone → AcceptsSmall → (content : Option Contents) (name bytes : List ℕ) (said : Verdict) (status : ℕ) → IsContent content name bytes →
-    said ≢ Accepted → is.IsVerdict host bytes (meant_by said) → status ≡ 3 → IfSome content (λ _. CompletesRun content name status)
-refused_completes alone accepts None name bytes said status is_content other v s = tt
-refused_completes alone accepts (Some files) name bytes said status is_content other v s = record {
-  small = λ list small. absurd (other (alone bytes said (accepts bytes list (small_here files name bytes list is_content small)) v));
-  unbuilt = λ unbuilt. absurd (other (alone bytes said (unbuilt_here files name bytes is_content unbuilt).accepted v));
-  refused = λ _ _ _. inl s;
+pub memory_completes : (content : Option Contents) (name : List ℕ) (options : Options) (status : ℕ) → status ≡ 8 → RunCompletes content name options status
+memory_completes None name options status s = tt
+memory_completes (Some files) name options status s = record {
+  begun = λ _ _ _. inr (inr (inr s));
+  returned = λ _ _ _. inr s;
+  unbegun = λ _ _ _ _. inr s;
+  refused = λ _ _ _. inr s;
 }
-
-pub memory_completes : (content : Option Contents) (name : List ℕ) (status : ℕ) → status ≡ 8 → IfSome content (λ _. CompletesRun content name status)
-memory_completes None name status s = tt
-memory_completes (Some files) name status s = record { small = λ _ _. inr s; unbuilt = λ _. inr s; refused = λ _ _ _. inr s }
 
 -- a check
 
@@ -121,12 +138,12 @@ check_completes M alone content name bytes (Outside rule) (Some w) sink status i
 check_completes M alone content name bytes (Invalid place) (Some w) sink status is_content v told memory unwritten stayed =
     check_refused alone content name bytes (Invalid place) status is_content (λ e. absurd (cc)) v (inl told.1.0)
 
-pub run_refused : (M : Type 0) → IsAlone → AcceptsSmall → (content : Option Contents) (name bytes : List ℕ) (said : Verdict) (checked : Option Verdict) (sink : Written) (status : ℕ) →
+pub run_refused : (M : Type 0) → IsAlone → (content : Option Contents) (name bytes : List ℕ) (options : Options) (said : Verdict) (checked : Option Verdict) (sink : Written) (status : ℕ) →
     IsContent content name bytes → said ≢ Accepted → is.IsVerdict host bytes (meant_by said) → Told said checked sink status → IfNone checked ((status ≡ 8) × M) →
-    IfSome content (λ _. CompletesRun content name status)
-run_refused M alone accepts content name bytes said checked sink status is_content other v told memory = elim (tells_refused M said checked sink status other told memory) [
-  | inl refused ↦ refused_completes alone accepts content name bytes said status is_content other v refused
-  | inr eight ↦ memory_completes content name status eight
+    RunCompletes content name options status
+run_refused M alone content name bytes options said checked sink status is_content other v told memory = elim (tells_refused M said checked sink status other told memory) [
+  | inl refused ↦ refused_completes alone content name bytes options said status is_content other v refused
+  | inr eight ↦ memory_completes content name options status eight
 ]
 
 -- a file that was judged is not unreadable
@@ -140,18 +157,20 @@ judged_is_read None name bytes before now status is_content other = λ _ _. tt
 judged_is_read (Some files) name bytes before now status is_content other =
     λ _ _. (λ four. absurd (other four), λ unreadable. absurd (readable (files name) bytes is_content.within is_content.told unreadable))
 
+pub told_is_read : (M : Type 0) (content : Option Contents) (name bytes : List ℕ) (said : Verdict) (checked : Option Verdict) (sink : Written) (before now status : ℕ) →
+    IsContent content name bytes → Told said checked sink status → IfNone checked ((status ≡ 8) × M) → TellsUnread content before now name status
+told_is_read M content name bytes said checked sink before now status is_content told memory =
+    judged_is_read content name bytes before now status is_content (other said checked told memory)
+  where
+    other : (v : Verdict) (o : Option Verdict) → Told v o sink status → IfNone o ((status ≡ 8) × M) → status ≢ 4
+    other v None t m = λ e. let eight = m.0 in omega arith
+    other Accepted (Some w) t m = λ e. elim t.1 [ inl done ↦ (let zero_is = done.0 in omega arith) | inr front ↦ (let five = front.0 in omega arith) ]
+    other Malformed (Some w) t m = λ e. let three = t.1.0 in omega arith
+    other (Outside rule) (Some w) t m = λ e. let three = t.1.0 in omega arith
+    other (Invalid place) (Some w) t m = λ e. let three = t.1.0 in omega arith
+
 pub refused_is_read : (M : Type 0) (content : Option Contents) (name bytes : List ℕ) (said : Verdict) (checked : Option Verdict) (sink : Written) (before now status : ℕ) →
     IsContent content name bytes → said ≢ Accepted → Told said checked sink status → IfNone checked ((status ≡ 8) × M) → TellsUnread content before now name status
 refused_is_read M content name bytes said checked sink before now status is_content other told memory =
     judged_is_read content name bytes before now status is_content
     (λ four. elim (tells_refused M said checked sink status other told memory) [ inl three ↦ absurd (omega arith) | inr eight ↦ absurd (omega arith) ])
-
--- the verdict of the code is that it is accepted
-pub accepted_by : (bytes : List ℕ) (said : Verdict) → said ≡ Accepted → is.IsVerdict host bytes (meant_by said) → is.IsVerdict host bytes is.Accepted
-accepted_by bytes said e v = subst (λ (a : Verdict). is.IsVerdict host bytes (meant_by a)) e v
-
--- an accepted file that is no small module
-pub has_unbuilt : (content : Option Contents) (name bytes : List ℕ) → IsContent content name bytes → is.IsVerdict host bytes is.Accepted →
-    ((list : List SmallInstr) → ¬ Small bytes list) → HasUnbuilt content name
-has_unbuilt content name bytes is_content accepted not_small =
-    record { bytes = bytes; is_content = is_content; is_unbuilt = record { accepted = accepted; not_small = not_small } }

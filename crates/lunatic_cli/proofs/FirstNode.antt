@@ -1,47 +1,35 @@
--- The node of a small module, and its run.
-use Rattle.std.proofs.Common.{◌≡◌, ◌≢◌, ℕ, List, [], ◌∷◌, Some, None, slice_get, map, refl, sym, ◌∙◌, ap}
+-- The node of a module, and the setting of its run.
+use Rattle.std.proofs.Common.{◌≡◌, ℕ, List, [], ◌∷◌, Some, slice_get, refl, sym, ◌∙◌, ap}
 use Rattle.host_port.specs.declared.start.Start.{Start}
 use Rattle.host_port.specs.declared.start.StartRefusal.{StartRefusal}
-use Rattle.host_port.specs.declared.start.StartRefusal.TheVariants as refusal
-use Rattle.journal.specs.World.{first_start}
+use Rattle.journal.specs.World.{first_start as start_in}
 use Rattle.process_table.specs.Seen.{Seen, setting_of}
-use Rattle.wasm_form.specs.Small.{SmallInstr}
-use Rattle.wasm_form.specs.Form.{module_of}
-use Rattle.fuel_stepper.specs.SmallRuns.{small_begin, small_at}
-use Rattle.fuel_stepper.proofs.Lines.{line_is}
-use Rattle.lunatic_cli.specs.SmallRuns.{default_start, small_setting, IsFirstNode}
+use Rattle.module_validator.specs.ValidModule.{ValidModule}
+use Rattle.tree_machine.specs.Begin as begins
+use Rattle.tree_machine.specs.Run as runs
+use Rattle.lunatic_cli.specs.declared.options.Options.{Options}
+use Rattle.lunatic_cli.specs.Options.{first_start}
+use Rattle.lunatic_cli.specs.Runs.{valid_setting, IsFirstNode}
 
--- a module has one list
-pub one-line : (a b : List SmallInstr) → module_of a ≡ module_of b → a ≡ b
-one-line a b e = sym (line_is (module_of a) a refl) ∙ line_is (module_of a) b e
-
-pub begins-at-all : (start : Start) → start ≡ default_start → small_begin start ≡ None
-begins-at-all start e = rw e refl
-
-pub only-memory : (why : StartRefusal) → (why ≢ refusal.NoMemory → ⊥) → why ≡ refusal.NoMemory
-only-memory refusal.NoExport h = absurd (h (λ e. absurd (cc)))
-only-memory refusal.BadParams h = absurd (h (λ e. absurd (cc)))
-only-memory refusal.PagesOver h = absurd (h (λ e. absurd (cc)))
-only-memory refusal.SegmentOut h = absurd (h (λ e. absurd (cc)))
-only-memory refusal.NoMemory h = refl
-
--- a start that is begun is refused for want of memory alone
-pub refused-by-memory : (start : Start) (why : StartRefusal) → start ≡ default_start → (why ≢ refusal.NoMemory → small_begin start ≡ Some why) → why ≡ refusal.NoMemory
-refused-by-memory start why is refused = only-memory why (λ other. let e = sym (begins-at-all start is) ∙ refused other in absurd (cc))
-
-pub setting-small : (m : _) (node : Seen (List SmallInstr)) (list : List SmallInstr) → IsFirstNode m node → m ≡ module_of list →
-    setting_of (λ _ start. small_begin start) small_at node ≡ small_setting list
-setting-small m node list first is =
-    let same : first.list ≡ list = one-line first.list list (sym first.module_is ∙ is) in
-    let programs : node.programs ≡ list ∷ [] = first.programs ∙ ap (λ (l : List SmallInstr). l ∷ []) same in
-    let start : first_start node.book.births ≡ default_start = ap first_start first.births in
+-- what the node's run is over
+pub setting-valid : (options : Options) (valid : ValidModule) (node : Seen ValidModule) → IsFirstNode options valid node →
+    setting_of (λ v start. begins.begin v.parts start) (λ v start calls fuel. runs.at v.parts start calls fuel) node ≡ valid_setting options valid
+setting-valid options valid node first =
+    let start : start_in node.book.births ≡ first_start options = ap start_in first.births in
     λ i. record {
-      programs = programs i;
-      begin = λ _ start. small_begin start;
-      at = small_at;
+      programs = first.programs i;
+      begin = λ v start. begins.begin v.parts start;
+      at = λ v start. runs.at v.parts start;
       terms = record { first = start i; live = first.live i; idle = first.idle i };
     }
 
 -- the one program of a list
-pub found-first : {A P : Type 0} (value : A → P) (items : List A) (x : A) (k : ℕ) → items ≡ x ∷ [] → k ≡ 0 → slice_get (map value items) k ≡ Some (value x)
-found-first value items x k is zero_is = rw (is, zero_is) refl
+pub found-first : {P : Type 0} (programs : List P) (x : P) (k : ℕ) → programs ≡ x ∷ [] → k ≡ 0 → slice_get programs k ≡ Some x
+found-first programs x k is zero_is = rw (is, zero_is) refl
+
+-- the begin of the first program is that of the module
+pub refused-first : (programs : List ValidModule) (valid : ValidModule) (options : Options) (start : Start) (why : StartRefusal) → programs ≡ valid ∷ [] → start ≡ first_start options →
+    ((program : ValidModule) → slice_get programs start.«module» ≡ Some program → begins.begin program.parts start ≡ Some why) →
+    begins.begin valid.parts (first_start options) ≡ Some why
+refused-first programs valid options start why is started refused =
+    ap (begins.begin valid.parts) (sym started) ∙ refused valid (found-first programs valid start.«module» is (ap (λ (s : Start). s.«module») started))

@@ -7,10 +7,13 @@ pub mod Clocks
 pub mod Entered
 pub mod Outsides
 pub mod Births
-pub mod SmallStatus
+pub mod HostRows
 pub mod FirstNode
-pub mod SmallAccepted
+pub mod OneModule
+pub mod Returned
 pub mod AcceptedAlone
+pub mod JudgedFiles
+pub mod RunFile
 pub mod Completions
 pub mod Asked
 pub mod Told

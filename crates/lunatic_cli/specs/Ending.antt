@@ -1,23 +1,23 @@
 -- How the program may end, by the words, the file and the sink.
-use Rattle.std.specs.Prelude.{◌≡◌, ◌≢◌, ℕ, ◌⊎◌, List, Option, Some, None, IfSome, option_map}
+use Rattle.std.specs.Prelude.{◌≡◌, ◌≢◌, ℕ, ◌⊎◌, List, Option, Some, None, IfSome}
 use Rattle.outside.specs.Files.{Contents}
+use Rattle.host_port.specs.declared.start.StartRefusal.{StartRefusal}
 use Rattle.journal.specs.Book.{Book, IsBlank}
 use Rattle.journal.specs.Lives.{Setting}
 use Rattle.journal.specs.Report.{report_text}
-use Rattle.wasm_form.specs.Small.{SmallInstr}
-use Rattle.wasm_form.specs.Verdict as is
-use Rattle.module_validator.specs.Host.{host}
+use Rattle.wasm_form.specs.declared.parts.Parts.{Parts}
 use Rattle.module_validator.specs.declared.answer.Verdict.{Verdict}
 use Rattle.module_validator.specs.declared.answer.Verdict.TheVariants.{Accepted}
-use Rattle.lunatic_cli.specs.declared.finish.RunVerdict.{RunVerdict}
-use Rattle.lunatic_cli.specs.declared.finish.RunVerdict.TheVariants.{Judged, Unbuilt}
+use Rattle.tree_machine.specs.Begin.{begin}
+use Rattle.lunatic_cli.specs.declared.options.Options.{Options}
 use Rattle.lunatic_cli.specs.declared.finish.Finish.{Finish}
 use Rattle.lunatic_cli.specs.Words.{Command, Run, Check}
 use Rattle.lunatic_cli.specs.Statuses.{HasStatus}
-use Rattle.lunatic_cli.specs.File.{HasVerdict, HasUnbuilt, HasSmall}
+use Rattle.lunatic_cli.specs.File.{HasVerdict, HasModule}
 use Rattle.lunatic_cli.specs.Headline.{OneJournal}
-use Rattle.lunatic_cli.specs.SmallRuns.{small_setting}
-use Rattle.lunatic_cli.specs.Texts.{words_line, unbuilt_line}
+use Rattle.lunatic_cli.specs.Options.{default_options, first_start}
+use Rattle.lunatic_cli.specs.Runs.{run_setting, Returns}
+use Rattle.lunatic_cli.specs.Texts.{words_line, start_line}
 use Rattle.lunatic_cli.specs.Writing.{Written, AppendsAll, AppendsFront, WritesLine}
 use Rattle.lunatic_cli.specs.Checks.{EndsUnjudged, TellsRefused, EndsCheck, CompletesCheck}
 
@@ -46,41 +46,46 @@ abbrev pub WritesReport : Option (List ℕ) → Option (List ℕ) → Book → �
 WritesReport old new book status =
     IsReported old new book status ⊎ (IsUnwritten old new book status ⊎ ((status ≡ 8) × (new ≡ old)))
 
--- memory was wanting before anything ran
-pub record RunsNothing (old new : Option (List ℕ)) (book : Book) (status : ℕ) : Type 0 where
-  pub status_is : status ≡ 8
-  pub nothing : new ≡ old
-  pub blank : IsBlank book
-
 -- the run is over, and what is written is of its journal
-pub record RunsWhole {P : Type 0} (setting : Setting P) (before after : List (Option ℕ)) (old new : Option (List ℕ))
-    (book : Book) (status : ℕ) : Type 0 where
-  pub journal : OneJournal setting before after book
-  pub writes : WritesReport old new book status
+pub record RunsWhole {P : Type 0} (setting : Setting P) (at : Outcome) (finish : Finish) : Type 0 where
+  pub begun : finish.start ≡ None
+  pub journal : OneJournal setting at.clocks_before at.clocks_after finish.journal
+  pub writes : WritesReport at.sink.before at.sink.after finish.journal finish.status
 
--- the file is an accepted module of a form that is not built
-pub record EndsUnbuilt (content : Option Contents) (name : List ℕ) (sink : Written) (status : ℕ) : Type 0 where
-  pub status_is : status ≡ 3
-  pub file : HasUnbuilt content name
-  pub line : WritesLine unbuilt_line sink
+-- process 1 can't start so: why, as the module's begin says, with its line; and nothing ran
+pub record RefusesStart (options : Options) (m : Parts) (sink : Written) (finish : Finish) : Type 0 where
+  pub why : StartRefusal
+  pub refused : begin m (first_start options) ≡ Some why
+  pub start_is : finish.start ≡ Some why
+  pub status_is : finish.status ≡ 3
+  pub line : WritesLine (start_line why) sink
+  pub blank : IsBlank finish.journal
 
--- the file is a small module, which is accepted and was run, or memory was wanting
-pub record EndsSmall (content : Option Contents) (name : List ℕ) (at : Outcome) (book : Book) (status : ℕ)
+-- memory was wanting before anything ran
+pub record RunsNothing (sink : Written) (finish : Finish) : Type 0 where
+  pub unrefused : finish.start ≡ None
+  pub status_is : finish.status ≡ 8
+  pub nothing : sink.after ≡ sink.before
+  pub blank : IsBlank finish.journal
+
+-- the end of a run of this module: it is over, or process 1 can't start, or memory was wanting
+abbrev pub RunsModule : Options → Parts → Outcome → Finish → Type 0
+RunsModule options m at finish =
+    RunsWhole (run_setting options m) at finish ⊎ (RefusesStart options m at.sink finish ⊎ RunsNothing at.sink finish)
+
+-- the file is an accepted module, and this is the end of its run
+pub record EndsAccepted (content : Option Contents) (name : List ℕ) (options : Options) (at : Outcome) (finish : Finish)
     : Type 0 where
-  pub list : List SmallInstr
-  pub file : HasSmall content name list
-  pub accepted : is.IsVerdict host file.bytes is.Accepted
-  pub run :
-      RunsWhole (small_setting list) at.clocks_before at.clocks_after at.sink.before at.sink.after book status
-      ⊎ RunsNothing at.sink.before at.sink.after book status
+  pub module_of_file : Parts
+  pub file : HasModule content name module_of_file
+  pub run : RunsModule options module_of_file at finish
 
 -- the end of a run of the file of this name, by its verdict
-abbrev pub EndsRun : Option Contents → (name : List ℕ) → Outcome → Book → (status : ℕ) → Option RunVerdict → Type 0
-EndsRun content name at book status None = EndsUnjudged at.sink status
-EndsRun content name at book status (Some Unbuilt) = EndsUnbuilt content name at.sink status
-EndsRun content name at book status (Some (Judged Accepted)) = EndsSmall content name at book status
-EndsRun content name at book status (Some (Judged refused)) =
-    HasVerdict content name refused × TellsRefused refused at.sink status
+abbrev pub EndsRun : Option Contents → (name : List ℕ) → Options → Outcome → Finish → Option Verdict → Type 0
+EndsRun content name options at finish None = EndsUnjudged at.sink finish.status
+EndsRun content name options at finish (Some Accepted) = EndsAccepted content name options at finish
+EndsRun content name options at finish (Some refused) =
+    HasVerdict content name refused × TellsRefused refused at.sink finish.status
 
 -- the words are refused
 pub record EndsRefused (sink : Written) (finish : Finish) : Type 0 where
@@ -88,27 +93,32 @@ pub record EndsRefused (sink : Written) (finish : Finish) : Type 0 where
   pub verdict_is : finish.verdict ≡ None
   pub line : WritesLine words_line sink
 
--- the file was checked
-pub record EndsChecked (content : Option Contents) (name : List ℕ) (sink : Written) (finish : Finish) : Type 0 where
-  pub verdict : Option Verdict
-  pub verdict_is : finish.verdict ≡ option_map Judged verdict
-  pub ends : EndsCheck content name sink finish.status verdict
-
--- the end of the program, by what the words ask for
+-- the end of the program, by what the words ask for; a run has the options that stand where none are named
 abbrev pub Ends : Option Contents → Outcome → Finish → Option Command → Type 0
 Ends content at finish None = EndsRefused at.sink finish
-Ends content at finish (Some (Run name)) = EndsRun content name at finish.journal finish.status finish.verdict
-Ends content at finish (Some (Check name)) = EndsChecked content name at.sink finish
+Ends content at finish (Some (Run name)) = EndsRun content name default_options at finish finish.verdict
+Ends content at finish (Some (Check name)) = EndsCheck content name at.sink finish.status finish.verdict
 
--- the run of a small module is done, and another file is refused, want of memory aside
-pub record CompletesRun (content : Option Contents) (name : List ℕ) (status : ℕ) : Type 0 where
-  pub small : (list : List SmallInstr) → HasSmall content name list → (status ≡ 0) ⊎ (status ≡ 8)
-  pub unbuilt : HasUnbuilt content name → (status ≡ 3) ⊎ (status ≡ 8)
+-- what becomes of a run of the file of this name, want of memory aside, where neither its reading nor a write fails
+pub record CompletesRun (content : Option Contents) (name : List ℕ) (options : Options) (status : ℕ) : Type 0 where
+  -- an accepted module that begins is run to an end of process 1, or until nothing can happen any more
+  pub begun : (m : Parts) → HasModule content name m → begin m (first_start options) ≡ None →
+      (status ≡ 0) ⊎ ((status ≡ 1) ⊎ ((status ≡ 6) ⊎ (status ≡ 8)))
+  -- it is done where it asks nothing and returns
+  pub returned : (m : Parts) → HasModule content name m → Returns options m → (status ≡ 0) ⊎ (status ≡ 8)
+  -- an accepted module that doesn't begin is refused
+  pub unbegun : (m : Parts) (why : StartRefusal) → HasModule content name m → begin m (first_start options) ≡ Some why →
+      (status ≡ 3) ⊎ (status ≡ 8)
+  -- another file is refused
   pub refused : (said : Verdict) → said ≢ Accepted → HasVerdict content name said → (status ≡ 3) ⊎ (status ≡ 8)
+
+-- the same, where the store tells its contents
+abbrev pub RunCompletes : Option Contents → (name : List ℕ) → Options → (status : ℕ) → Type 0
+RunCompletes content name options status = IfSome content (λ _. CompletesRun content name options status)
 
 -- what becomes of the file that the words name, by what they ask for
 abbrev pub CompletesFile : Option Contents → (status : ℕ) → Command → Type 0
-CompletesFile content status (Run name) = CompletesRun content name status
+CompletesFile content status (Run name) = CompletesRun content name default_options status
 CompletesFile content status (Check name) = CompletesCheck content name status
 
 -- what becomes of the file that the words name, where the store tells its contents

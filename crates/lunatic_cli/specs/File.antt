@@ -2,8 +2,8 @@
 use Rattle.std.specs.Prelude.{◌≡◌, ◌≢◌, ℕ, ◌<◌, ◌≤◌, ◌↔◌, List, length, Option, Some, None, IfSome}
 use Rattle.outside.specs.Causes.{Stayed}
 use Rattle.outside.specs.Files.{Contents}
-use Rattle.wasm_form.specs.Small.{SmallInstr}
-use Rattle.wasm_form.specs.Form.{Small}
+use Rattle.wasm_form.specs.declared.parts.Parts.{Parts}
+use Rattle.wasm_form.specs.Modules.{Spells}
 use Rattle.wasm_form.specs.Verdict as is
 use Rattle.module_validator.specs.Host.{host}
 use Rattle.module_validator.specs.Answers.{meant_by}
@@ -29,25 +29,15 @@ abbrev pub TellsUnread : Option Contents → (before now : ℕ) → (name : List
 TellsUnread content before now name status =
     Stayed before now → status ≢ 8 → IfSome content (λ files. (status ≡ 4) ↔ IsUnreadable (files name))
 
--- the module is accepted, and no list of instructions makes it a small one
-pub record IsUnbuilt (bytes : List ℕ) : Type 0 where
-  pub accepted : is.IsVerdict host bytes is.Accepted
-  pub not_small : (list : List SmallInstr) → ¬ Small bytes list
-
 -- the file has bytes of which this is the verdict
 pub record HasVerdict (content : Option Contents) (name : List ℕ) (said : Verdict) : Type 0 where
   pub bytes : List ℕ
   pub is_content : IsContent content name bytes
   pub is_verdict : is.IsVerdict host bytes (meant_by said)
 
--- the file is an accepted module, which is not a small one
-pub record HasUnbuilt (content : Option Contents) (name : List ℕ) : Type 0 where
+-- the file has bytes that spell this module, which is accepted
+pub record HasModule (content : Option Contents) (name : List ℕ) (m : Parts) : Type 0 where
   pub bytes : List ℕ
   pub is_content : IsContent content name bytes
-  pub is_unbuilt : IsUnbuilt bytes
-
--- the file is the small module with this list of instructions
-pub record HasSmall (content : Option Contents) (name : List ℕ) (list : List SmallInstr) : Type 0 where
-  pub bytes : List ℕ
-  pub is_content : IsContent content name bytes
-  pub is_small : Small bytes list
+  pub is_spelled : Spells bytes m
+  pub is_accepted : is.IsAccepted host m

@@ -14,10 +14,11 @@ use Rattle.journal.specs.World.{is_away}
 use Rattle.journal.specs.Runs.{told, Rounds}
 use Rattle.journal.specs.Lives.{Setting, IsRun}
 use Rattle.journal.specs.Report.{report_text}
-use Rattle.wasm_form.specs.Small.{SmallInstr}
-use Rattle.lunatic_cli.specs.File.{HasSmall}
+use Rattle.wasm_form.specs.declared.parts.Parts.{Parts}
+use Rattle.lunatic_cli.specs.declared.options.Options.{Options}
+use Rattle.lunatic_cli.specs.File.{HasModule}
 use Rattle.lunatic_cli.specs.Times.{times_of, AllAreWithin}
-use Rattle.lunatic_cli.specs.SmallRuns.{small_setting}
+use Rattle.lunatic_cli.specs.Runs.{run_setting}
 use Rattle.lunatic_cli.specs.Writing.{AppendsAll}
 
 -- the first birth is that of a process with this start
@@ -47,9 +48,9 @@ pub record Headline {P : Type 0} (setting : Setting P) (before after : List (Opt
   pub journal : OneJournal setting before after book
   pub written : AppendsAll old new (report_text book)
 
--- the file of this name is the small module with some list, and the headline holds of its run
-pub record HeadlineOfFile (content : Option Contents) (name : List ℕ) (before after : List (Option ℕ))
-    (old new : Option (List ℕ)) (book : Book) : Type 0 where
-  pub list : List SmallInstr
-  pub is_small : HasSmall content name list
-  pub holds : Headline (small_setting list) before after old new book
+-- the file of this name is an accepted module, and the headline holds of its run with these options
+pub record HeadlineOfFile (content : Option Contents) (name : List ℕ) (options : Options)
+    (before after : List (Option ℕ)) (old new : Option (List ℕ)) (book : Book) : Type 0 where
+  pub module_of_file : Parts
+  pub is_module : HasModule content name module_of_file
+  pub holds : Headline (run_setting options module_of_file) before after old new book

@@ -8,6 +8,7 @@ pub mod Times
 pub mod Entering
 pub mod Statuses
 pub mod Resting
-pub mod SmallRuns
+pub mod Options
+pub mod Runs
 pub mod Headline
 pub mod Ending

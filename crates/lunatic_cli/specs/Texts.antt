@@ -1,7 +1,9 @@
 -- The lines that are written where nothing ran. Each ends with a line feed. The report of a run is the journal's
 -- (`report_text`).
-use Rattle.std.specs.Prelude.{ℕ, List, ◌++◌, codes}
+use Rattle.std.specs.Prelude.{ℕ, List, [], ◌++◌, codes}
 use Rattle.std.specs.Fmt.{decimal}
+use Rattle.host_port.specs.declared.start.StartRefusal.{StartRefusal}
+use Rattle.host_port.specs.declared.start.StartRefusal.TheVariants as refusal
 use Rattle.module_validator.specs.declared.answer.Place.TheVariants.{Rule, Function}
 use Rattle.module_validator.specs.declared.answer.Verdict.{Verdict}
 use Rattle.module_validator.specs.declared.answer.Verdict.TheVariants as verdict
@@ -13,10 +15,6 @@ words_line = codes "refused: words\n"
 -- the module file is refused
 abbrev pub file_line : List ℕ
 file_line = codes "refused: file 0\n"
-
--- the module is accepted, and has a form that is not built yet
-abbrev pub unbuilt_line : List ℕ
-unbuilt_line = codes "refused: module 0 unbuilt\n"
 
 -- the module is accepted
 abbrev pub accepted_line : List ℕ
@@ -33,3 +31,11 @@ verdict_line (verdict.Outside rule) = numbered_line (codes "refused: module 0 ou
 verdict_line (verdict.Invalid (Rule rule)) = numbered_line (codes "refused: module 0 invalid rule ") rule
 verdict_line (verdict.Invalid (Function place)) = numbered_line (codes "refused: module 0 invalid function ") place
 verdict_line verdict.Accepted = accepted_line
+
+-- the line of a start that is refused; for want of memory nothing is written
+abbrev pub start_line : StartRefusal → List ℕ
+start_line refusal.NoExport = codes "refused: entry\n"
+start_line refusal.BadParams = codes "refused: parameters\n"
+start_line refusal.PagesOver = codes "refused: pages\n"
+start_line refusal.SegmentOut = codes "refused: segment\n"
+start_line refusal.NoMemory = []

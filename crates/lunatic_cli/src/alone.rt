@@ -22,7 +22,8 @@ const WORKER: u8 = 0;
 
 /// Runs a node to its end: one worker goes round it with one outside, and gives up its journal.
 ///
-/// It returns. The outside is told of each process that is taken, before its turn. Where the machine refuses the memory for a round, the run is over by a Starve.
+/// It returns. The outside is told of each process that is taken, before its turn. Where the machine refuses the memory
+/// for a round, the run is over by a Starve.
 pub fn run_alone<E: Engine, O: Outside>(
     alloc: Global,
     mut node: Node<E, O>,

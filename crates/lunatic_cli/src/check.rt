@@ -54,7 +54,7 @@ pub fn check_call<F: Files, K: Sink>(
     // So an accepted file is not refused.
     accepted_alone();
     match judge(alloc, files, name) {
-        Ok(file) => tell_verdict(alloc, out, file.verdict),
+        Ok(file) => tell_verdict(alloc, out, file.verdict()),
         Err(why) => tell_unjudged(out, why),
     }
 }

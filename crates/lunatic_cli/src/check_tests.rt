@@ -1,4 +1,4 @@
-use crate::{Checked, Place, RunVerdict, Verdict, check_call, lunatic};
+use crate::{Checked, Place, Verdict, check_call, lunatic};
 use outside::{MemFiles, MemOutside, MemSink};
 use std::alloc::{AllocError, Global};
 use std::test::Fail;
@@ -11,6 +11,16 @@ const BEFORE_CODE: [u8; 30] = [
 
 /// The code section that drops a constant.
 const DROPS: [u8; 9] = [0x0A, 0x07, 0x01, 0x05, 0x00, 0x41, 0x2A, 0x1A, 0x0B];
+
+/// The code section with an instruction behind a branch: br 0, i32.add, drop.
+const BRANCHES: [u8; 10] = [0x0A, 0x08, 0x01, 0x06, 0x00, 0x0C, 0x00, 0x6A, 0x1A, 0x0B];
+
+/// The module that drops a constant, behind its header, with a second type, which has an f32 parameter.
+const HAS_AN_F32_TYPE: [u8; 35] = [
+    0x01, 0x08, 0x02, 0x60, 0x00, 0x00, 0x60, 0x01, 0x7D, 0x00, 0x03, 0x02, 0x01, 0x00, 0x07, 0x0A,
+    0x01, 0x06, 0x5F, 0x73, 0x74, 0x61, 0x72, 0x74, 0x00, 0x00, 0x0A, 0x07, 0x01, 0x05, 0x00, 0x41,
+    0x2A, 0x1A, 0x0B,
+];
 
 /// A module that exports one function by one name twice, after its first section.
 const EXPORTS_TWICE: [u8; 21] = [
@@ -32,7 +42,7 @@ fn told(
     command: &str,
     bytes: Vec<u8>,
     text: &[u8],
-) -> Result<(u8, Option<RunVerdict>, bool), Fail> {
+) -> Result<(u8, Option<Verdict>, bool), Fail> {
     let file = (String::from_str(alloc, "file")?, bytes);
     let mut files = MemFiles::new(vec![in alloc; file]?, Vec::new(alloc));
     let mut out = MemSink::new(alloc, 100, 7, Vec::new(alloc), Vec::new(alloc))?;
@@ -74,7 +84,7 @@ fn fronts_of_a_module(rt: HostRuntime) -> Result<(), Fail> {
         };
         assert_eq!(rt;
             told(alloc, "check", front, text)?,
-            (status, Some(RunVerdict::Judged(verdict)), true),
+            (status, Some(verdict), true),
             "of {length}"
         );
     }
@@ -88,14 +98,17 @@ fn both_commands_refuse_alike(rt: HostRuntime) -> Result<(), Fail> {
         // An f32 local.
         (
             BEFORE_CODE.as_slice(),
-            [0x0A, 0x06, 0x01, 0x04, 0x01, 0x01, 0x7D, 0x0B].as_slice(),
+            [
+                0x0A, 0x09, 0x01, 0x07, 0x01, 0x01, 0x7D, 0x41, 0x2A, 0x1A, 0x0B,
+            ]
+            .as_slice(),
             Verdict::Outside(1),
             b"refused: module 0 outside rule 1\n".as_slice(),
         ),
         // An f32 parameter in a type that nothing has.
         (
             &BEFORE_CODE[..8],
-            [0x01, 0x05, 0x01, 0x60, 0x01, 0x7D, 0x00].as_slice(),
+            HAS_AN_F32_TYPE.as_slice(),
             Verdict::Outside(1),
             b"refused: module 0 outside rule 1\n".as_slice(),
         ),
@@ -116,7 +129,7 @@ fn both_commands_refuse_alike(rt: HostRuntime) -> Result<(), Fail> {
         for command in ["check", "run"] {
             assert_eq!(rt;
                 told(alloc, command, module(alloc, begin, rest)?, text)?,
-                (3, Some(RunVerdict::Judged(verdict)), true),
+                (3, Some(verdict), true),
                 "{command}"
             );
         }
@@ -125,32 +138,25 @@ fn both_commands_refuse_alike(rt: HostRuntime) -> Result<(), Fail> {
 }
 
 #[test]
-fn what_is_accepted_and_not_small_is_unbuilt(rt: HostRuntime) -> Result<(), Fail> {
+fn a_check_starts_nothing(rt: HostRuntime) -> Result<(), Fail> {
     let alloc = rt.alloc();
-    for (begin, rest) in [
-        (&BEFORE_CODE[..8], b"".as_slice()),
-        // br 0, i32.add, drop.
-        (
-            BEFORE_CODE.as_slice(),
-            [0x0A, 0x08, 0x01, 0x06, 0x00, 0x0C, 0x00, 0x6A, 0x1A, 0x0B].as_slice(),
-        ),
-    ] {
-        let bytes = module(alloc, begin, rest)?;
-        assert_eq!(rt;
-            told(alloc, "check", bytes, b"accepted\n".as_slice())?,
-            (0, Some(RunVerdict::Judged(Verdict::Accepted)), true)
-        );
-        let bytes = module(alloc, begin, rest)?;
-        assert_eq!(rt;
-            told(
-                alloc,
-                "run",
-                bytes,
-                b"refused: module 0 unbuilt\n".as_slice()
-            )?,
-            (3, Some(RunVerdict::Unbuilt), true)
-        );
-    }
+    // The header, a module without an entry.
+    let bytes = BEFORE_CODE[..8].to_vec(alloc)?;
+    assert_eq!(rt;
+        told(alloc, "check", bytes, b"accepted\n".as_slice())?,
+        (0, Some(Verdict::Accepted), true)
+    );
+    // Code behind a branch, where the operands may have any types.
+    let bytes = module(alloc, BEFORE_CODE.as_slice(), BRANCHES.as_slice())?;
+    assert_eq!(rt;
+        told(alloc, "check", bytes, b"accepted\n".as_slice())?,
+        (0, Some(Verdict::Accepted), true)
+    );
+    let bytes = BEFORE_CODE[..8].to_vec(alloc)?;
+    assert_eq!(rt;
+        told(alloc, "run", bytes, b"refused: entry\n".as_slice())?,
+        (3, Some(Verdict::Accepted), true)
+    );
     Ok(())
 }
 

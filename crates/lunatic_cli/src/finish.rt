@@ -1,41 +1,42 @@
-ghost use Rattle.std.specs.Prelude.{◌≡◌, option_map};
+ghost use Rattle.std.specs.Prelude.{◌≡◌, None};
 ghost use Rattle.journal.specs.Book.{IsBlank};
-ghost use Rattle.lunatic_cli.specs.declared.finish.RunVerdict.TheVariants.{Judged};
 
+use host_port::StartRefusal;
 use journal::Journal;
 use module_validator::Verdict;
 use std::alloc::Global;
-
-/// The verdict of a run on the module of its file. Once every accepted module is run, it is a [`Verdict`] alone.
-#[derive(Clone, Copy, Debug, PartialEq, Eq)]
-pub enum RunVerdict {
-    /// The verdict on the module. Where it is accepted, the module is run.
-    Judged(Verdict),
-    /// The module is accepted and of a form that is not built yet.
-    Unbuilt,
-}
 
 /// How a run of the program ended.
 #[derive(Debug, Drop)]
 pub struct Finish {
     /// The exit status.
     pub status: u8,
-    /// The verdict on the module, where it was judged.
-    pub verdict: Option<RunVerdict>,
+    /// The verdict on the module, where it was judged: none also where the line of a verdict couldn't be made for want
+    /// of memory.
+    pub verdict: Option<Verdict>,
+    /// Why process 1 can't start, where that is what refused the run.
+    pub start: Option<StartRefusal>,
     /// What happened in the run. Where nothing ran, it is empty.
     pub journal: Journal,
 }
 
 impl Finish {
     /// The end of a command in which nothing ran.
-    pub fn without_run(alloc: Global, status: u8, verdict: Option<RunVerdict>) -> Finish
+    pub fn without_run(
+        alloc: Global,
+        status: u8,
+        verdict: Option<Verdict>,
+        start: Option<StartRefusal>,
+    ) -> Finish
         ensures status { result.status ≡ status }
         ensures verdict { result.verdict ≡ verdict }
+        ensures start { result.start ≡ start }
         ensures blank { IsBlank result.journal }
     {
         Finish {
             status,
             verdict,
+            start,
             journal: Journal::new(alloc),
         }
     }
@@ -43,14 +44,11 @@ impl Finish {
     /// The end of a command in which nothing ran, as a check tells it.
     pub fn of_check(alloc: Global, checked: Checked) -> Finish
         ensures status { result.status ≡ checked.status }
-        ensures verdict { result.verdict ≡ option_map Judged checked.verdict }
+        ensures verdict { result.verdict ≡ checked.verdict }
+        ensures start { result.start ≡ None }
         ensures blank { IsBlank result.journal }
     {
-        Finish::without_run(
-            alloc,
-            checked.status,
-            checked.verdict.map(RunVerdict::Judged),
-        )
+        Finish::without_run(alloc, checked.status, checked.verdict, None)
     }
 }
 
@@ -59,7 +57,8 @@ impl Finish {
 pub struct Checked {
     /// The exit status.
     pub status: u8,
-    /// The verdict on the module, where it was judged.
+    /// The verdict on the module, where it was judged: none also where the line of a verdict couldn't be made for want
+    /// of memory.
     pub verdict: Option<Verdict>,
 }
 
@@ -72,7 +71,7 @@ pub const FAILED: u8 = 1;
 /// The words are refused.
 pub const WORDS: u8 = 2;
 
-/// The module is refused.
+/// The module is refused, or process 1 can't start.
 pub const MODULE: u8 = 3;
 
 /// The module file is missing, too long, or its reading failed.

@@ -1,14 +1,12 @@
 ghost use Rattle.std.specs.Prelude.{◌≡◌, ◌≤◌, ◌⊎◌, Err, IfOk, IfSome, OnOk};
 ghost use Rattle.outside.specs.Causes.{Rose, Stayed};
-ghost use Rattle.wasm_form.specs.Verdict.{IsVerdict, IsVerdictOn};
-ghost use Rattle.module_validator.specs.Host.{host};
-ghost use Rattle.module_validator.specs.Answers.{meant_by};
-ghost use Rattle.lunatic_cli.specs.File.{IsUnreadable};
-ghost use Rattle.lunatic_cli.specs.Judged.{IsJudged};
+ghost use Rattle.lunatic_cli.specs.File.{HasVerdict, IsUnreadable};
+ghost use Rattle.lunatic_cli.specs.Judged.{IsJudged, IsJudgedText, IsJudgedModule, verdict_of};
 
 use body_reader::ReadFault;
+use memory_refusal::NoMemory;
 use module_reader::read_module;
-use module_validator::{Verdict, accept};
+use module_validator::{Valid, Verdict, accept};
 use outside::{FileStep, Files};
 use std::alloc::Global;
 use wasm_form::Module;
@@ -18,9 +16,23 @@ const FILE_LIMIT: u64 = 16_777_216;
 
 /// A module file that was read and judged.
 #[derive(Drop)]
-pub struct JudgedFile {
-    pub verdict: Verdict,
-    pub bytes: Vec<u8>,
+pub enum JudgedFile {
+    /// Its module is accepted, and this is it.
+    Accepted(Valid),
+    /// Its module is refused by this verdict.
+    Refused(Verdict),
+}
+
+impl JudgedFile {
+    /// The verdict on the file.
+    pub fn verdict(&self) -> Verdict
+        ensures { result ≡ verdict_of self.now }
+    {
+        match self {
+            JudgedFile::Accepted(_) => Verdict::Accepted,
+            JudgedFile::Refused(verdict) => *verdict,
+        }
+    }
 }
 
 /// Why a module file isn't judged.
@@ -35,6 +47,7 @@ pub enum Unjudged {
 /// Reads the file of this name and judges it.
 pub fn judge<F: Files>(alloc: Global, files: &mut F, name: &str) -> Result<JudgedFile, Unjudged>
     ensures judged { IfOk result (λ file. IsJudged (F.content files.old) name.now file) }
+    ensures verdict { IfOk result (λ file. HasVerdict (F.content files.old) name.now (verdict_of file)) }
     ensures stayed { OnOk result (Stayed (F.faults files.old) (F.faults files.new)
         × Stayed (F.lacks files.old) (F.lacks files.new)) }
     ensures unread { result ≡ Err Unjudged.Unread
@@ -51,31 +64,34 @@ pub fn judge<F: Files>(alloc: Global, files: &mut F, name: &str) -> Result<Judge
         FileStep::TooLong | FileStep::Missing | FileStep::Failed => return Err(Unjudged::Unread),
         FileStep::NoMemory => return Err(Unjudged::NoMemory),
     }
-    match verdict_on(alloc, bytes.as_slice()) {
-        Some(verdict) => Ok(JudgedFile { verdict, bytes }),
-        None => Err(Unjudged::NoMemory),
+    match judge_text(alloc, bytes.as_slice()) {
+        Ok(file) => Ok(file),
+        Err(NoMemory) => Err(Unjudged::NoMemory),
     }
 }
 
-/// The verdict on the bytes; None for want of memory.
-fn verdict_on(alloc: Global, bytes: &[u8]) -> Option<Verdict>
-    ensures { IfSome result (λ said. IsVerdict host bytes.now (meant_by said)) }
+/// Judges the bytes of a file.
+fn judge_text(alloc: Global, bytes: &[u8]) -> Result<JudgedFile, NoMemory>
+    ensures { IfOk result (λ file. IsJudgedText bytes.now file) }
 {
     match read_module(alloc, bytes) {
-        Ok(module) => verdict_on_module(alloc, module),
+        Ok(module) => judge_module(alloc, module),
         Err(fault) => match fault {
-            ReadFault::Malformed => Some(Verdict::Malformed),
-            ReadFault::NoMemory => None,
+            ReadFault::Malformed => Ok(JudgedFile::Refused(Verdict::Malformed)),
+            ReadFault::NoMemory => Err(NoMemory),
         },
     }
 }
 
-/// The verdict on a module that some bytes spell; None for want of memory.
-fn verdict_on_module(alloc: Global, module: Module) -> Option<Verdict>
-    ensures { IfSome result (λ said. IsVerdictOn host «module» (meant_by said)) }
+/// Judges a module that some bytes spell.
+fn judge_module(alloc: Global, module: Module) -> Result<JudgedFile, NoMemory>
+    ensures { IfOk result (λ file. IsJudgedModule «module» file) }
 {
     match accept(alloc, module) {
-        Ok(_) => Some(Verdict::Accepted),
-        Err(refused) => refused.verdict(),
+        Ok(valid) => Ok(JudgedFile::Accepted(valid)),
+        Err(refused) => match refused.verdict() {
+            Some(verdict) => Ok(JudgedFile::Refused(verdict)),
+            None => Err(NoMemory),
+        },
     }
 }

@@ -1,6 +1,4 @@
 ghost use Rattle.std.specs.Prelude.{◌≡◌, ℕ, List};
-ghost use Rattle.wasm_form.specs.Small.{SmallInstr};
-ghost use Rattle.wasm_form.specs.Form.{Small};
 ghost use Rattle.wasm_form.specs.Verdict as is;
 ghost use Rattle.module_validator.specs.Host.{host};
 ghost use Rattle.module_validator.specs.Answers.{meant_by};
@@ -16,8 +14,3 @@ pub fn accepted_alone()
 {
     one_module();
 }
-
-/// A small module is accepted. It computes nothing.
-pub fn small_is_accepted()
-    ensures { (bytes : List ℕ) (list : List SmallInstr) → Small bytes list → is.IsVerdict host bytes is.Accepted }
-{}

@@ -3,8 +3,8 @@
 //!
 //! The top call is [`lunatic`], which does all that the program does over the store of files, the sink and the outsides
 //! that it is given. Its contract is the theorem of the whole: from the bytes of the file to the bytes of the report,
-//! which is that of one journal, with the cause of each status. [`check_call`] tells the verdict on a file, and
-//! [`run_alone`] is the run of a node by one worker.
+//! which is that of one journal, with the cause of each status. [`run_call`] runs a file with given [`Options`],
+//! [`check_call`] tells the verdict on it, and [`run_alone`] is the run of a node by one worker.
 #![tactic(auto)]
 
 mod alone;
@@ -12,6 +12,7 @@ mod check;
 mod finish;
 mod judge;
 mod laws;
+mod options;
 mod run;
 mod run_file;
 mod start;
@@ -23,11 +24,15 @@ mod writing;
 
 pub use alone::run_alone;
 pub use check::check_call;
-pub use finish::{Checked, Finish, RunVerdict};
+pub use finish::{Checked, Finish};
 pub use module_validator::{Place, Verdict};
+pub use options::Options;
+pub use run_file::run_call;
 pub use top_call::lunatic;
 
 #[cfg(test)]
 mod check_tests;
+#[cfg(test)]
+mod row_tests;
 #[cfg(test)]
 mod tests;

@@ -1,30 +1,34 @@
-ghost use Rattle.std.specs.Prelude.{◌≡◌, ◌≢◌, ◌<◌, ◌≤◌, ◌⊎◌, List, Some, [], map, length, vec_len};
+ghost use Rattle.std.specs.Prelude.{◌≡◌, ◌≢◌, ◌<◌, ◌≤◌, ◌⊎◌, ◌↔◌, Some, IsSome, [], map, vec_len};
 ghost use Rattle.outside.specs.Causes.{RoseOrFull, Stayed, StayedBelow};
-ghost use Rattle.journal.specs.Lives.{IsRun};
+ghost use Rattle.journal.specs.Lives.{Setting};
 ghost use Rattle.journal.specs.Report.{IsReportable};
 ghost use Rattle.journal.specs.Runs.{told};
 ghost use Rattle.process_table.specs.Seen.{setting_of};
-ghost use Rattle.wasm_form.specs.Small.{SmallInstr};
-ghost use Rattle.wasm_form.specs.Form.{IsSmallModule, module_of};
-ghost use Rattle.lunatic_cli.specs.declared.finish.RunVerdict.TheVariants.{Judged};
-ghost use Rattle.lunatic_cli.specs.Ending.{WritesReport, RunsWhole, RunsNothing};
+ghost use Rattle.wasm_form.specs.declared.parts.Parts.{Parts};
+ghost use Rattle.module_validator.specs.ValidModule.{ValidModule};
+ghost use Rattle.tree_machine.specs.Begin.{begin};
+ghost use Rattle.lunatic_cli.specs.declared.options.Options.{Options as Opts};
+ghost use Rattle.lunatic_cli.specs.Ending.{WritesReport, RefusesStart, RunsNothing, RunsModule};
 ghost use Rattle.lunatic_cli.specs.Statuses.{EndsByLast};
 ghost use Rattle.lunatic_cli.specs.Headline.{OneJournal};
-ghost use Rattle.lunatic_cli.specs.SmallRuns.{small_setting};
+ghost use Rattle.lunatic_cli.specs.Options.{first_start};
+ghost use Rattle.lunatic_cli.specs.Runs.{Returns};
 ghost use Rattle.lunatic_cli.specs.Times.{NoneFalls, NoneGoesBack};
+ghost use Rattle.lunatic_cli.specs.Writing.{Written};
 
 use crate::alone::run_alone;
-use crate::finish::{MEMORY, SINK};
+use crate::finish::{MEMORY, MODULE, SINK};
 use crate::start::first_node;
 use crate::status::status_of;
+use crate::telling::{line_of_start, write_refusal};
 use crate::writing::write_all;
-use crate::{Finish, RunVerdict, Verdict};
-use host_port::Engine;
+use crate::{Finish, Options, Verdict};
+use host_port::{Engine, StartRefusal};
 use journal::{Journal, report};
+use module_validator::Valid;
 use outside::{Failed, Outside, Sink};
 use process_table::Node;
 use std::alloc::Global;
-use wasm_form::Module;
 
 /// Runs the node to its end with the first of the outsides.
 fn run_first<E: Engine, O: Outside>(
@@ -48,7 +52,7 @@ fn run_first<E: Engine, O: Outside>(
 /// Writes the report of a journal, and answers the status of its run. The text is whole before the first write.
 fn write_report<K: Sink>(alloc: Global, journal: &Journal, out: &mut K) -> u8
     requires reportable { IsReportable journal.now }
-    requires ended { (list : List SmallInstr) × EndsByLast (small_setting list) (told journal.now) journal.now.entries }
+    requires ended { (setting : Setting ValidModule) × EndsByLast setting (told journal.now) journal.now.entries }
     ensures writes { WritesReport (K.written out.old) (K.written out.new) journal.now result }
     ensures unwritten { result ≡ 5 → RoseOrFull (K.faults out.old) (K.faults out.new) }
     ensures written { result ≢ 5 → result ≢ 8 → Stayed (K.faults out.old) (K.faults out.new) }
@@ -67,39 +71,77 @@ fn write_report<K: Sink>(alloc: Global, journal: &Journal, out: &mut K) -> u8
     }
 }
 
-/// Runs the module and writes the report.
+/// Ends a run whose process 1 can't start so, with the line of the cause. For want of memory nothing is written, and no
+/// cause is told.
+fn end_unstarted<K: Sink>(alloc: Global, out: &mut K, why: StartRefusal) -> Finish
+    ensures verdict { result.verdict ≡ Some Verdict.Accepted }
+    ensures ends { (options : Opts) (m : Parts) →
+        (why ≢ StartRefusal.NoMemory → begin m (first_start options) ≡ Some why) →
+        let sink : Written = record {
+          faults_before = K.faults out.old;
+          faults_after = K.faults out.new;
+          before = K.written out.old;
+          after = K.written out.new;
+        } in
+        RefusesStart options m sink result ⊎ RunsNothing sink result }
+    ensures refused { (result.status ≡ 3) ↔ IsSome result.start }
+    ensures statuses { (result.status ≡ 3) ⊎ (result.status ≡ 8) }
+    ensures later { K.faults out.old ≤ K.faults out.new }
+{
+    match why {
+        StartRefusal::NoMemory => {
+            Finish::without_run(alloc, MEMORY, Some(Verdict::Accepted), None)
+        }
+        _ => {
+            write_refusal(out, line_of_start(why));
+            Finish::without_run(alloc, MODULE, Some(Verdict::Accepted), Some(why))
+        }
+    }
+}
+
+/// Runs the module and writes the report, or the cause for which process 1 can't start.
 pub fn run<K: Sink, O: Outside>(
     alloc: Global,
-    module: Module,
+    valid: Valid,
     out: &mut K,
     outsides: &mut Vec<O>,
+    options: &Options,
 ) -> Finish
-    requires small { IsSmallModule «module» }
     requires some { 0 < vec_len outsides.old }
-    ensures verdict { result.verdict ≡ Some (Judged Verdict.Accepted) }
-    ensures runs { (list : List SmallInstr) → «module» ≡ module_of list →
-        RunsWhole (small_setting list) (map O.clock outsides.old.items) (map O.clock outsides.new.items)
-        (K.written out.old) (K.written out.new) result.journal result.status
-        ⊎ RunsNothing (K.written out.old) (K.written out.new) result.journal result.status }
+    ensures verdict { result.verdict ≡ Some Verdict.Accepted }
+    ensures runs { RunsModule options.now valid.parts (record {
+      sink = record {
+        faults_before = K.faults out.old;
+        faults_after = K.faults out.new;
+        before = K.written out.old;
+        after = K.written out.new;
+      };
+      clocks_before = map O.clock outsides.old.items;
+      clocks_after = map O.clock outsides.new.items;
+    }) result }
+    ensures returned { Returns options.now valid.parts → StayedBelow (K.faults out.old) (K.faults out.new)
+        → (result.status ≡ 0) ⊎ (result.status ≡ 8) }
+    ensures refused { (result.status ≡ 3) ↔ IsSome result.start }
+    ensures unstarted { IsSome result.start → outsides.new.items ≡ outsides.old.items }
     ensures unwritten { result.status ≡ 5 → RoseOrFull (K.faults out.old) (K.faults out.new) }
-    ensures written { result.status ≢ 5 → result.status ≢ 8 → Stayed (K.faults out.old) (K.faults out.new) }
-    ensures done { (list : List SmallInstr) → «module» ≡ module_of list → length list < 1000000000 →
-        StayedBelow (K.faults out.old) (K.faults out.new) → (result.status ≡ 0) ⊎ (result.status ≡ 8) }
+    ensures written { result.status ≢ 3 → result.status ≢ 5 → result.status ≢ 8
+        → Stayed (K.faults out.old) (K.faults out.new) }
     ensures later { K.faults out.old ≤ K.faults out.new }
     ensures clocks { NoneGoesBack (map O.clock outsides.old.items) (map O.clock outsides.new.items) }
     ensures faults { NoneFalls (map O.faults outsides.old.items) (map O.faults outsides.new.items) }
     ensures waits { NoneFalls (map O.waits outsides.old.items) (map O.waits outsides.new.items) }
     ensures rests { NoneFalls (map O.rests outsides.old.items) (map O.rests outsides.new.items) }
 {
-    let verdict = Some(RunVerdict::Judged(Verdict::Accepted));
-    let Ok(node) = first_node(alloc, module) else {
-        return Finish::without_run(alloc, MEMORY, verdict);
+    let node = match first_node(alloc, valid, options) {
+        Ok(node) => node,
+        Err(why) => return end_unstarted(alloc, out, why),
     };
     let journal = run_first(alloc, node, outsides);
     let status = write_report(alloc, &journal, out);
     Finish {
         status,
-        verdict,
+        verdict: Some(Verdict::Accepted),
+        start: None,
         journal,
     }
 }

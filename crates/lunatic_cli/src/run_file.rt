@@ -1,42 +1,36 @@
-ghost use Rattle.std.specs.Prelude.{◌≡◌, ◌≢◌, ◌<◌, ◌≤◌, ◌⊎◌, ◌↔◌, ℕ, List, Option, Some, IfOk, IfErr, IfSome, IsSome, IsSomeAnd, true, map, vec_len};
+ghost use Rattle.std.specs.Prelude.{◌≡◌, ◌≢◌, ◌<◌, ◌≤◌, ◌⊎◌, ◌↔◌, ℕ, List, Option, Some, IfOk, IfErr, IsSome, IsSomeAnd, None, true, map, vec_len};
 ghost use Rattle.std.specs.List.{list_any};
 ghost use Rattle.outside.specs.Causes.{Rose, RoseOrFull, Stayed, StayedBelow};
 ghost use Rattle.journal.specs.Book.{IsBlank};
-ghost use Rattle.wasm_form.specs.Small.{SmallInstr};
-ghost use Rattle.wasm_form.specs.Form.{module_of};
-ghost use Rattle.wasm_form.specs.Verdict as is;
-ghost use Rattle.module_validator.specs.Host.{host};
-ghost use Rattle.lunatic_cli.specs.declared.finish.RunVerdict.TheVariants.{Judged};
-ghost use Rattle.lunatic_cli.specs.File.{HasSmall, TellsUnread};
+ghost use Rattle.lunatic_cli.specs.declared.options.Options.{Options as Opts};
+ghost use Rattle.lunatic_cli.specs.File.{HasModule, TellsUnread};
 ghost use Rattle.lunatic_cli.specs.Headline.{HeadlineOfFile};
-ghost use Rattle.lunatic_cli.specs.Ending.{EndsRun, CompletesRun};
+ghost use Rattle.lunatic_cli.specs.Ending.{EndsRun, RunCompletes};
 ghost use Rattle.lunatic_cli.specs.Statuses.{is_stall, is_starve};
 ghost use Rattle.lunatic_cli.specs.Times.{NoneFalls, NoneGoesBack};
 
-use crate::finish::{MEMORY, MODULE};
-use crate::judge::judge;
-use crate::laws::{accepted_alone, small_is_accepted};
+use crate::judge::{JudgedFile, judge};
+use crate::laws::accepted_alone;
 use crate::run::run;
-use crate::telling::{tell_unjudged, tell_verdict, write_refusal};
-use crate::{Finish, RunVerdict, Verdict};
-use module_reader::read_small;
+use crate::telling::{tell_unjudged, tell_verdict};
+use crate::{Finish, Options, Verdict};
+use module_validator::Valid;
 use outside::{Files, Outside, Sink};
 use std::alloc::Global;
-use wasm_form::Module;
+use wasm_form::one_module;
 
-/// The module to run from the file of this name: the file is read and judged, and accepted modules that are small are
-/// run. Else the end of the run, in which nothing ran.
+/// The module to run from the file of this name: the file is read and judged, and its module is run where it is
+/// accepted. Else the end of the run, in which nothing ran.
 fn module_to_run<F: Files, K: Sink>(
     alloc: Global,
     files: &mut F,
     out: &mut K,
     name: &str,
-) -> Result<Module, Finish>
-    ensures small { IfOk result (λ m. (list : List SmallInstr) × (file : HasSmall (F.content files.old) name.now list)
-        × is.IsVerdict host file.bytes is.Accepted × (m ≡ module_of list)) }
+) -> Result<Valid, Finish>
+    ensures accepted { IfOk result (λ valid. HasModule (F.content files.old) name.now valid.parts) }
     ensures silent { IfOk result (λ _. out.new ≡ out.old) }
-    ensures ends { IfErr result (λ finish. (before after : List (Option ℕ)) →
-        EndsRun (F.content files.old) name.now (record {
+    ensures ends { IfErr result (λ finish. (options : Opts) (before after : List (Option ℕ)) →
+        EndsRun (F.content files.old) name.now options (record {
           sink = record {
             faults_before = K.faults out.old;
             faults_after = K.faults out.new;
@@ -45,8 +39,9 @@ fn module_to_run<F: Files, K: Sink>(
           };
           clocks_before = before;
           clocks_after = after;
-        }) finish.journal finish.status finish.verdict) }
-    ensures unaccepted { IfErr result (λ finish. finish.verdict ≢ Some (Judged Verdict.Accepted)) }
+        }) finish finish.verdict) }
+    ensures unaccepted { IfErr result (λ finish. finish.verdict ≢ Some Verdict.Accepted) }
+    ensures unstarted { IfErr result (λ finish. finish.start ≡ None) }
     ensures blank { IfErr result (λ finish. IsBlank finish.journal) }
     ensures refused { IfErr result (λ finish. (finish.status ≡ 3) ↔ IsSome finish.verdict) }
     ensures statuses { IfErr result (λ finish. (finish.status ≡ 3) ⊎ ((finish.status ≡ 4) ⊎ (finish.status ≡ 8))) }
@@ -60,51 +55,51 @@ fn module_to_run<F: Files, K: Sink>(
         (F.faults files.new) name.now finish.status) }
     ensures completes { IfErr result (λ finish. Stayed (F.faults files.old) (F.faults files.new)
         → Stayed (F.lacks files.old) (F.lacks files.new)
-        → IfSome (F.content files.old) (λ _. CompletesRun (F.content files.old) name.now finish.status)) }
+        → (options : Opts) → RunCompletes (F.content files.old) name.now options finish.status) }
     ensures content { F.content files.new ≡ F.content files.old }
     ensures file_faults { F.faults files.old ≤ F.faults files.new }
     ensures file_lacks { F.lacks files.old ≤ F.lacks files.new }
     ensures sink_faults { K.faults out.old ≤ K.faults out.new }
 {
-    // So an accepted file is not refused, and a small one is accepted.
+    // So an accepted file is not refused.
     accepted_alone();
-    small_is_accepted();
     let file = match judge(alloc, files, name) {
         Ok(file) => file,
         Err(why) => return Err(Finish::of_check(alloc, tell_unjudged(out, why))),
     };
-    match file.verdict {
-        Verdict::Accepted => match read_small(alloc, file.bytes.as_slice()) {
-            Ok(Some(module)) => Ok(module),
-            Ok(None) => {
-                write_refusal(out, b"refused: module 0 unbuilt\n");
-                Err(Finish::without_run(alloc, MODULE, Some(RunVerdict::Unbuilt)))
-            }
-            Err(_) => Err(Finish::without_run(alloc, MEMORY, None)),
-        },
-        refused => Err(Finish::of_check(alloc, tell_verdict(alloc, out, refused))),
+    match file {
+        JudgedFile::Accepted(valid) => Ok(valid),
+        JudgedFile::Refused(verdict) => {
+            Err(Finish::of_check(alloc, tell_verdict(alloc, out, verdict)))
+        }
     }
 }
 
-/// Reads the file of this name and judges it as a module, runs the module with the first of the outsides, and writes
-/// the report.
+/// Reads the file of this name and judges it as a module, runs the module by these options with the first of the
+/// outsides, and writes the report.
+///
+/// The status is 0 where process 1 returned, 1 where it ended otherwise, 3 where the module or process 1's start is
+/// refused, 4 where the file is missing, longer than 16,777,216 bytes, or its reading failed, 6 where nothing could
+/// happen any more, 5 in place of 0, 1 and 6 where the sink failed, and 8 for want of memory.
 pub fn run_call<F: Files, K: Sink, O: Outside>(
     alloc: Global,
     files: &mut F,
     out: &mut K,
     outsides: &mut Vec<O>,
     name: &str,
+    options: &Options,
 ) -> Finish
     requires some { 0 < vec_len outsides.old }
+    requires one_worker { options.now.workers ≡ 1 }
 
     // Where a run is told to its end, what is written is the report of one journal.
     ensures headline { result.status ≢ 3 → result.status ≢ 4 → result.status ≢ 5 → result.status ≢ 8 →
-        HeadlineOfFile (F.content files.old) name.now
+        HeadlineOfFile (F.content files.old) name.now options.now
         (map O.clock outsides.old.items) (map O.clock outsides.new.items)
         (K.written out.old) (K.written out.new) result.journal }
 
     // What is judged and what is written, with each status.
-    ensures ends { EndsRun (F.content files.old) name.now (record {
+    ensures ends { EndsRun (F.content files.old) name.now options.now (record {
       sink = record {
         faults_before = K.faults out.old;
         faults_after = K.faults out.new;
@@ -113,16 +108,19 @@ pub fn run_call<F: Files, K: Sink, O: Outside>(
       };
       clocks_before = map O.clock outsides.old.items;
       clocks_after = map O.clock outsides.new.items;
-    }) result.journal result.status result.verdict }
+    }) result result.verdict }
     ensures stalled { list_any is_stall result.journal.entries ≡ true →
         (result.status ≡ 6) ⊎ ((result.status ≡ 5) ⊎ (result.status ≡ 8)) }
     ensures stalls { result.status ≡ 6 → list_any is_stall result.journal.entries ≡ true }
     ensures starved { list_any is_starve result.journal.entries ≡ true → result.status ≡ 8 }
-    ensures blank { result.verdict ≢ Some (Judged Verdict.Accepted) → IsBlank result.journal }
+    ensures blank { result.verdict ≢ Some Verdict.Accepted → IsBlank result.journal }
+    ensures blank_unstarted { IsSome result.start → IsBlank result.journal }
 
     // When each status comes.
     ensures words { result.status ≢ 2 }
-    ensures refused { (result.status ≡ 3) ↔ IsSomeAnd result.verdict (λ said. said ≢ Judged Verdict.Accepted) }
+    ensures refused { (result.status ≡ 3)
+        ↔ (IsSomeAnd result.verdict (λ said. said ≢ Verdict.Accepted) ⊎ IsSome result.start) }
+    ensures start { IsSome result.start → result.verdict ≡ Some Verdict.Accepted }
     ensures unread { result.status ≡ 4
         → Rose (F.faults files.old) (F.faults files.new) ⊎ Rose (F.lacks files.old) (F.lacks files.new) }
     ensures unread_told { TellsUnread (F.content files.old) (F.faults files.old) (F.faults files.new) name.now
@@ -135,10 +133,11 @@ pub fn run_call<F: Files, K: Sink, O: Outside>(
     ensures completes { Stayed (F.faults files.old) (F.faults files.new)
         → Stayed (F.lacks files.old) (F.lacks files.new)
         → StayedBelow (K.faults out.old) (K.faults out.new)
-        → IfSome (F.content files.old) (λ _. CompletesRun (F.content files.old) name.now result.status) }
+        → RunCompletes (F.content files.old) name.now options.now result.status }
 
     // What the outside keeps.
-    ensures untouched { result.verdict ≢ Some (Judged Verdict.Accepted) → outsides.new.items ≡ outsides.old.items }
+    ensures untouched { result.verdict ≢ Some Verdict.Accepted → outsides.new.items ≡ outsides.old.items }
+    ensures untouched_unstarted { IsSome result.start → outsides.new.items ≡ outsides.old.items }
     ensures content { F.content files.new ≡ F.content files.old }
     ensures file_faults { F.faults files.old ≤ F.faults files.new }
     ensures file_lacks { F.lacks files.old ≤ F.lacks files.new }
@@ -148,10 +147,11 @@ pub fn run_call<F: Files, K: Sink, O: Outside>(
     ensures waits { NoneFalls (map O.waits outsides.old.items) (map O.waits outsides.new.items) }
     ensures rests { NoneFalls (map O.rests outsides.old.items) (map O.rests outsides.new.items) }
 {
-    // So a small module is not refused.
+    // So an accepted file is not refused, and has one module.
     accepted_alone();
+    one_module();
     match module_to_run(alloc, files, out, name) {
-        Ok(module) => run(alloc, module, out, outsides),
+        Ok(valid) => run(alloc, valid, out, outsides, options),
         Err(finish) => finish,
     }
 }

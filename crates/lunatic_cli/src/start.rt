@@ -1,71 +1,57 @@
-ghost use Rattle.std.specs.Prelude.{◌≡◌, List, [], ◌∷◌, IfOk};
-ghost use Rattle.journal.specs.declared.life.Birth.TheVariants.{Born};
-ghost use Rattle.wasm_form.specs.Form.{IsSmallModule};
-ghost use Rattle.lunatic_cli.specs.SmallRuns.{default_start, IsFirstNode};
+ghost use Rattle.std.specs.Prelude.{◌≡◌, ◌≢◌, [], ◌∷◌, map, Some, IfOk, IfErr};
+ghost use Rattle.std.specs.Arc.{arc_value};
+ghost use Rattle.tree_machine.specs.Begin.{begin};
+ghost use Rattle.lunatic_cli.specs.Options.{first_start as start_by};
+ghost use Rattle.lunatic_cli.specs.Runs.{IsFirstNode};
 
-use fuel_stepper::{SmallInstance, SmallModule};
-use host_port::{Bytes, Limits, Params, Start, StartRefusal};
+use crate::Options;
+use fuel_stepper::Instance;
+use host_port::{Params, Start, StartRefusal};
 use memory_refusal::NoMemory;
+use module_validator::Valid;
 use outside::Outside;
 use process_table::Node;
 use std::alloc::Global;
 use std::sync::Arc;
-use wasm_form::Module;
-
-/// The name of the function that process 1 enters.
-const ENTRY: &[u8] = b"_start";
-
-/// The most pages of process 1's memory.
-const PAGES: u32 = 64;
-
-/// The most fuel of process 1's life.
-const FUEL: u64 = 1_000_000_000;
-
-/// The most bytes that process 1's calls move.
-const TRAFFIC: u64 = 67_108_864;
-
-/// How many processes may live at once.
-const LIVE: u32 = 1_024;
-
-/// How long a run may be idle, in entries.
-const IDLE: u64 = 100_000;
 
 /// The start of process 1.
-fn first_start(alloc: Global) -> Result<Start, NoMemory>
-    ensures { IfOk result (λ start. start ≡ default_start) }
+fn first_start(alloc: Global, options: &Options) -> Result<Start, NoMemory>
+    ensures { IfOk result (λ start. start ≡ start_by options.now) }
 {
     Ok(Start {
         pid: 1,
         module: 0,
-        entry: Bytes::from_vec(ENTRY.to_vec(alloc)?),
+        entry: options.entry.try_clone()?,
         params: Params::new(alloc),
-        limits: Limits::new(PAGES, FUEL, TRAFFIC),
+        limits: options.limits,
     })
 }
 
-/// The refusal of a start that can be refused for want of memory alone.
-fn want_of_memory(why: StartRefusal) -> NoMemory
-    requires { why ≡ StartRefusal.NoMemory }
+/// The one program of a run.
+fn one_program(alloc: Global, valid: Valid) -> Result<Vec<Arc<Valid>>, NoMemory>
+    ensures { IfOk result (λ programs. map arc_value programs.items ≡ valid ∷ []) }
 {
-    match why {
-        StartRefusal::NoMemory => NoMemory,
-        _ => unreachable!(),
-    }
+    let mut programs = Vec::new(alloc);
+    programs.push(Arc::new(alloc, valid)?)?;
+    Ok(programs)
 }
 
-/// A node in which process 1 is born on this module, and nothing has happened. It is refused for want of memory alone.
+/// A node in which process 1 is born on this module, and nothing has happened. It is refused with what the module's
+/// begin says, or for want of memory.
 pub fn first_node<O: Outside>(
     alloc: Global,
-    module: Module,
-) -> Result<Node<SmallInstance, O>, NoMemory>
-    requires small { IsSmallModule «module» }
-    ensures { IfOk result (λ node. IsFirstNode «module» node) }
+    valid: Valid,
+    options: &Options,
+) -> Result<Node<Instance, O>, StartRefusal>
+    ensures made { IfOk result (λ node. IsFirstNode options.now valid node) }
+    ensures refused { IfErr result (λ why. why ≢ StartRefusal.NoMemory
+        → begin valid.parts (start_by options.now) ≡ Some why) }
 {
-    let start = first_start(alloc)?;
-    let mut programs = Vec::new(alloc);
-    programs.push(Arc::new(alloc, SmallModule::of(module))?)?;
-    match Node::new(alloc, programs, start, LIVE, IDLE) {
-        Ok(node) => Ok(node),
-        Err(why) => Err(want_of_memory(why)),
-    }
+    let Ok(start) = first_start(alloc, options) else {
+        return Err(StartRefusal::NoMemory);
+    };
+    let Ok(programs) = one_program(alloc, valid) else {
+        return Err(StartRefusal::NoMemory);
+    };
+    Node::new(alloc, programs, start, options.live, options.idle)
 }

@@ -1,10 +1,10 @@
-ghost use Rattle.std.specs.Prelude.{◌≡◌, List, Some};
+ghost use Rattle.std.specs.Prelude.{◌≡◌, Some};
 ghost use Rattle.journal.specs.declared.halt.End.{End};
 ghost use Rattle.journal.specs.Runs.{told};
-ghost use Rattle.wasm_form.specs.Small.{SmallInstr};
+ghost use Rattle.journal.specs.Lives.{Setting};
+ghost use Rattle.module_validator.specs.ValidModule.{ValidModule};
 ghost use Rattle.world_laws.specs.Fits.{end_of};
 ghost use Rattle.lunatic_cli.specs.Statuses.{HasStatus, EndsByLast, status_of_end};
-ghost use Rattle.lunatic_cli.specs.SmallRuns.{small_setting};
 
 use crate::finish::{DONE, FAILED, MEMORY, STALLED};
 use journal::{Entry, Halt, Journal};
@@ -22,7 +22,7 @@ fn status_by(halt: &Halt) -> u8
 
 /// The status that the journal of a run tells, which its last entry has ended.
 pub fn status_of(journal: &Journal) -> u8
-    requires { (list : List SmallInstr) × EndsByLast (small_setting list) (told journal.now) journal.now.entries }
+    requires { (setting : Setting ValidModule) × EndsByLast setting (told journal.now) journal.now.entries }
     ensures { HasStatus journal.now result }
 {
     match journal.entries() {

@@ -1,6 +1,6 @@
 ghost use Rattle.std.specs.Prelude.{◌≡◌, ◌≢◌, ◌≤◌, ◌⊎◌, None, IfOk, IfSome, IfNone, string_bytes};
 ghost use Rattle.outside.specs.Causes.{RoseOrFull, Stayed};
-ghost use Rattle.lunatic_cli.specs.Texts.{verdict_line};
+ghost use Rattle.lunatic_cli.specs.Texts.{start_line, verdict_line};
 ghost use Rattle.lunatic_cli.specs.Writing.{WritesLine};
 ghost use Rattle.lunatic_cli.specs.Checks.{EndsUnjudged, TellsVerdict};
 
@@ -8,6 +8,7 @@ use crate::finish::{DONE, FILE, MEMORY, MODULE, SINK};
 use crate::judge::Unjudged;
 use crate::writing::write_all;
 use crate::{Checked, Place, Verdict};
+use host_port::StartRefusal;
 use memory_refusal::NoMemory;
 use outside::Sink;
 use std::alloc::Global;
@@ -48,6 +49,19 @@ pub fn tell_unjudged<K: Sink>(out: &mut K, why: Unjudged) -> Checked
     Checked {
         status,
         verdict: None,
+    }
+}
+
+/// The line of a start that is refused. For want of memory it is empty.
+pub fn line_of_start(why: StartRefusal) -> &'static [u8]
+    ensures { result.now ≡ start_line why }
+{
+    match why {
+        StartRefusal::NoExport => b"refused: entry\n",
+        StartRefusal::BadParams => b"refused: parameters\n",
+        StartRefusal::PagesOver => b"refused: pages\n",
+        StartRefusal::SegmentOut => b"refused: segment\n",
+        StartRefusal::NoMemory => b"",
     }
 }
 

@@ -2,11 +2,9 @@ ghost use Rattle.std.specs.Prelude.{◌≡◌, IsTrue, [], IfOk};
 ghost use Rattle.process_table.specs.Rows.{are_served};
 ghost use Rattle.journal.specs.Report.{IsReportable};
 
-use crate::{RunVerdict, Verdict, lunatic, run_alone};
-use fuel_stepper::{SmallInstance, SmallModule};
-use host_port::{Ask, Bytes, Limits, Params, Start};
+use crate::{Verdict, lunatic, run_alone};
+use host_port::{Ask, Bytes, Limits, Params, Start, StartRefusal};
 use journal::{Birth, Ended, Entry, Halt, Journal, Side, report};
-use module_reader::read_small;
 use outside::{
     AcceptStep, BlankListener, BlankStream, MakeStep, MemFiles, MemOutside, MemSink, Outside, raise,
 };
@@ -25,6 +23,8 @@ const FIRST: [u8; 39] = [
 
 const REPORT: &[u8] =
     b"process 1 done fuel 2 pages 0 mark 0\ntotal processes 1 messages 0 streams 0\n";
+
+const MALFORMED: &[u8] = b"refused: module 0 malformed\n";
 
 fn words(alloc: Global, texts: &[&str]) -> Result<Vec<String>, AllocError> {
     let mut words = Vec::new(alloc);
@@ -101,22 +101,18 @@ fn is_blank(journal: &Journal) -> bool {
 fn files_are_judged_and_run(rt: HostRuntime) -> Result<(), Fail> {
     let alloc = rt.alloc();
     let mut files = store(alloc, vec![in alloc; 4u64]?)?;
-    for (name, status, verdict, text) in [
-        (
-            "first",
-            0,
-            Some(RunVerdict::Judged(Verdict::Accepted)),
-            REPORT,
-        ),
+    for (name, status, verdict, start, text) in [
+        ("first", 0, Some(Verdict::Accepted), None, REPORT),
         (
             "header",
             3,
-            Some(RunVerdict::Unbuilt),
-            b"refused: module 0 unbuilt\n".as_slice(),
+            Some(Verdict::Accepted),
+            Some(StartRefusal::NoExport),
+            b"refused: entry\n".as_slice(),
         ),
-        ("none", 4, None, b"refused: file 0\n".as_slice()),
-        ("long", 4, None, b"refused: file 0\n".as_slice()),
-        ("first", 4, None, b"refused: file 0\n".as_slice()),
+        ("none", 4, None, None, b"refused: file 0\n".as_slice()),
+        ("long", 4, None, None, b"refused: file 0\n".as_slice()),
+        ("first", 4, None, None, b"refused: file 0\n".as_slice()),
     ] {
         let mut out = MemSink::new(alloc, 100, 7, Vec::new(alloc), Vec::new(alloc))?;
         let given = words(alloc, &["run", name])?;
@@ -124,8 +120,8 @@ fn files_are_judged_and_run(rt: HostRuntime) -> Result<(), Fail> {
         assert_eq!(rt; outsides.len(), 16);
         let finish = lunatic(alloc, given.as_slice(), &mut files, &mut out, &mut outsides);
         assert_eq!(rt;
-            (finish.status, finish.verdict),
-            (status, verdict),
+            (finish.status, finish.verdict, finish.start),
+            (status, verdict, start),
             "of {name}"
         );
         assert_eq!(rt; out.written(), text, "of {name}");
@@ -135,8 +131,8 @@ fn files_are_judged_and_run(rt: HostRuntime) -> Result<(), Fail> {
     Ok(())
 }
 
-/// The status and the verdict for a file with these bytes.
-fn judged(alloc: Global, bytes: Vec<u8>) -> Result<(u8, Option<RunVerdict>), Fail> {
+/// The status and the verdict for a file with these bytes, and whether this text was written.
+fn judged(alloc: Global, bytes: Vec<u8>, text: &[u8]) -> Result<(u8, Option<Verdict>, bool), Fail> {
     let file = (String::from_str(alloc, "file")?, bytes);
     let mut files = MemFiles::new(vec![in alloc; file]?, Vec::new(alloc));
     let mut out = MemSink::new(alloc, 100, 100, Vec::new(alloc), Vec::new(alloc))?;
@@ -146,7 +142,7 @@ fn judged(alloc: Global, bytes: Vec<u8>) -> Result<(u8, Option<RunVerdict>), Fai
         return Err("sixteen outsides")?;
     }
     let finish = lunatic(alloc, given.as_slice(), &mut files, &mut out, &mut outsides);
-    Ok((finish.status, finish.verdict))
+    Ok((finish.status, finish.verdict, out.written() == text))
 }
 
 /// The module `first` with these bytes as the size of its code section.
@@ -161,25 +157,37 @@ fn sized(alloc: Global, size: &[u8]) -> Result<Vec<u8>, AllocError> {
 fn what_spells_no_module_is_malformed(rt: HostRuntime) -> Result<(), Fail> {
     let alloc = rt.alloc();
     for length in 0..39usize {
-        let verdict = if length == 8 || length == 14 {
-            RunVerdict::Unbuilt
+        // The header alone, and that with a type, are modules without an entry.
+        let (verdict, text) = if length == 8 || length == 14 {
+            (Verdict::Accepted, b"refused: entry\n".as_slice())
         } else {
-            RunVerdict::Judged(Verdict::Malformed)
+            (Verdict::Malformed, MALFORMED)
         };
         let front = FIRST[..length].to_vec(alloc)?;
-        assert_eq!(rt; judged(alloc, front)?, (3, Some(verdict)), "of {length}");
+        assert_eq!(rt;
+            judged(alloc, front, text)?,
+            (3, Some(verdict), true),
+            "of {length}"
+        );
     }
-    for (size, verdict) in [
+    for (size, status, verdict, text) in [
         (
             [0x87, 0x80, 0x80, 0x80, 0x00].as_slice(),
-            RunVerdict::Unbuilt,
+            0,
+            Verdict::Accepted,
+            REPORT,
         ),
         (
             [0x87, 0x80, 0x80, 0x80, 0x80, 0x00].as_slice(),
-            RunVerdict::Judged(Verdict::Malformed),
+            3,
+            Verdict::Malformed,
+            MALFORMED,
         ),
     ] {
-        assert_eq!(rt; judged(alloc, sized(alloc, size)?)?, (3, Some(verdict)));
+        assert_eq!(rt;
+            judged(alloc, sized(alloc, size)?, text)?,
+            (status, Some(verdict), true)
+        );
     }
     Ok(())
 }
@@ -307,33 +315,6 @@ fn one_worker_runs_a_script_to_its_end(rt: HostRuntime) -> Result<(), Fail> {
     assert_eq!(rt;
         text.as_slice(),
         b"process 1 stalled fuel 1 pages 0 mark 0\ntotal processes 1 messages 0 streams 0\n".as_slice()
-    );
-    Ok(())
-}
-
-#[test]
-fn one_worker_runs_a_module_to_its_fuel(rt: HostRuntime) -> Result<(), Fail> {
-    let alloc = rt.alloc();
-    let Ok(Some(module)) = read_small(alloc, FIRST.as_slice()) else {
-        return Err("the module")?;
-    };
-    let mut programs = Vec::new(alloc);
-    programs.push(Arc::new(alloc, SmallModule::of(module))?)?;
-    let Ok(node) = Node::<SmallInstance, MemOutside>::new(
-        alloc,
-        programs,
-        first_start(alloc, 1)?,
-        10,
-        100,
-    ) else {
-        return Err("start")?;
-    };
-    let mut outside = MemOutside::with_nothing(alloc);
-    let journal = run_alone(alloc, node, &mut outside);
-    let text = text_of(alloc, &journal)?;
-    assert_eq!(rt;
-        text.as_slice(),
-        b"process 1 spent fuel fuel 1 pages 0 mark 0\ntotal processes 1 messages 0 streams 0\n".as_slice()
     );
     Ok(())
 }

@@ -2,20 +2,21 @@ ghost use Rattle.std.specs.Prelude.{◌≡◌, ◌≢◌, ◌≤◌, ◌⊎◌, 
 ghost use Rattle.std.specs.List.{list_any};
 ghost use Rattle.outside.specs.Causes.{Rose, RoseOrFull, Stayed, StayedBelow};
 ghost use Rattle.journal.specs.Book.{IsBlank};
-ghost use Rattle.lunatic_cli.specs.declared.finish.RunVerdict.TheVariants.{Judged};
 ghost use Rattle.lunatic_cli.specs.Words.{Run, Check, command_of, file_of};
 ghost use Rattle.lunatic_cli.specs.File.{TellsUnread};
 ghost use Rattle.lunatic_cli.specs.Headline.{HeadlineOfFile};
 ghost use Rattle.lunatic_cli.specs.Ending.{Ends, Completes};
+ghost use Rattle.lunatic_cli.specs.Options.{default_options};
 ghost use Rattle.lunatic_cli.specs.Statuses.{is_stall, is_starve};
 ghost use Rattle.lunatic_cli.specs.Times.{NoneFalls, NoneGoesBack};
 
 use crate::check::check_call;
-use crate::finish::WORDS;
+use crate::finish::{MEMORY, WORDS};
 use crate::run_file::run_call;
 use crate::telling::write_refusal;
 use crate::words::{Command, read_command};
-use crate::{Finish, Verdict};
+use crate::{Finish, Options, Verdict};
+use memory_refusal::NoMemory;
 use outside::{Files, Outside, Sink};
 use std::alloc::Global;
 
@@ -33,7 +34,7 @@ pub fn lunatic<F: Files, K: Sink, O: Outside>(
     // Where a run is told to its end, what is written is the report of one journal.
     ensures headline { (name : List ℕ) → command_of (map string_bytes words.now) ≡ Some (Run name)
         → result.status ≢ 3 → result.status ≢ 4 → result.status ≢ 5 → result.status ≢ 8 →
-        HeadlineOfFile (F.content files.old) name
+        HeadlineOfFile (F.content files.old) name default_options
         (map O.clock outsides.old.items) (map O.clock outsides.new.items)
         (K.written out.old) (K.written out.new) result.journal }
 
@@ -52,13 +53,18 @@ pub fn lunatic<F: Files, K: Sink, O: Outside>(
         (result.status ≡ 6) ⊎ ((result.status ≡ 5) ⊎ (result.status ≡ 8)) }
     ensures stalls { result.status ≡ 6 → list_any is_stall result.journal.entries ≡ true }
     ensures starved { list_any is_starve result.journal.entries ≡ true → result.status ≡ 8 }
-    ensures blank { result.verdict ≢ Some (Judged Verdict.Accepted) → IsBlank result.journal }
+    ensures blank { result.verdict ≢ Some Verdict.Accepted → IsBlank result.journal }
+    ensures blank_unstarted { IsSome result.start → IsBlank result.journal }
     ensures blank_check { (name : List ℕ) → command_of (map string_bytes words.now) ≡ Some (Check name)
         → IsBlank result.journal }
 
     // When each status comes.
     ensures words { (result.status ≡ 2) ↔ (command_of (map string_bytes words.now) ≡ None) }
-    ensures refused { (result.status ≡ 3) ↔ IsSomeAnd result.verdict (λ said. said ≢ Judged Verdict.Accepted) }
+    ensures refused { (result.status ≡ 3)
+        ↔ (IsSomeAnd result.verdict (λ said. said ≢ Verdict.Accepted) ⊎ IsSome result.start) }
+    ensures start { IsSome result.start → result.verdict ≡ Some Verdict.Accepted }
+    ensures start_check { (name : List ℕ) → command_of (map string_bytes words.now) ≡ Some (Check name)
+        → result.start ≡ None }
     ensures unread { result.status ≡ 4
         → Rose (F.faults files.old) (F.faults files.new) ⊎ Rose (F.lacks files.old) (F.lacks files.new) }
     ensures unread_told { IfSome (command_of (map string_bytes words.now)) (λ asked.
@@ -75,7 +81,8 @@ pub fn lunatic<F: Files, K: Sink, O: Outside>(
 
     // What the outside keeps.
     ensures unread_words { result.status ≡ 2 → files.new ≡ files.old }
-    ensures untouched { result.verdict ≢ Some (Judged Verdict.Accepted) → outsides.new.items ≡ outsides.old.items }
+    ensures untouched { result.verdict ≢ Some Verdict.Accepted → outsides.new.items ≡ outsides.old.items }
+    ensures untouched_unstarted { IsSome result.start → outsides.new.items ≡ outsides.old.items }
     ensures untouched_check { (name : List ℕ) → command_of (map string_bytes words.now) ≡ Some (Check name)
         → outsides.new.items ≡ outsides.old.items }
     ensures content { F.content files.new ≡ F.content files.old }
@@ -88,11 +95,14 @@ pub fn lunatic<F: Files, K: Sink, O: Outside>(
     ensures rests { NoneFalls (map O.rests outsides.old.items) (map O.rests outsides.new.items) }
 {
     match read_command(words) {
-        Some(Command::Run(name)) => run_call(alloc, files, out, outsides, name),
+        Some(Command::Run(name)) => match Options::defaults(alloc) {
+            Ok(options) => run_call(alloc, files, out, outsides, name, &options),
+            Err(NoMemory) => Finish::without_run(alloc, MEMORY, None, None),
+        },
         Some(Command::Check(name)) => Finish::of_check(alloc, check_call(alloc, files, out, name)),
         None => {
             write_refusal(out, b"refused: words\n");
-            Finish::without_run(alloc, WORDS, None)
+            Finish::without_run(alloc, WORDS, None, None)
         }
     }
 }

@@ -1,43 +1,65 @@
-use Rattle.std.proofs.Common.{List, map, subst, inl}
+use Rattle.std.proofs.Common.{map, subst, inl, inr, refl}
 use Rattle.journal.specs.LifeLaws.{IsRun-reportable}
 use Rattle.journal.specs.Lives.{Setting}
 use Rattle.journal.specs.Runs.{told}
-use Rattle.wasm_form.specs.Small.{SmallInstr}
+use Rattle.module_validator.specs.ValidModule.{ValidModule}
 use Rattle.lunatic_cli.specs.Headline.{OneJournal}
 use Rattle.lunatic_cli.specs.Statuses.{EndsByLast}
-use Rattle.lunatic_cli.proofs.FirstNode.{setting-small}
+use Rattle.lunatic_cli.proofs.FirstNode.{setting-valid}
+use Rattle.lunatic_cli.proofs.OneModule.{journal-of-parts}
 use Rattle.lunatic_cli.proofs.Outsides.{falls-refl, goes-refl}
-use Rattle.lunatic_cli.proofs.SmallStatus.{done-or-memory}
+use Rattle.lunatic_cli.proofs.Returned.{done-or-memory, unstarted-memory}
+use Rattle.lunatic_cli.proofs.Told.{reports-told, told-ran}
 use Rattle.lunatic_cli.proofs.run.run.Goals as goal
 
-pub returns-in_default-clause-clocks : goal.returns-in_default-clause-clocks
-returns-in_default-clause-clocks g c = goes-refl (map g.O.Outside.clock c.args.outsides.now.items)
+-- process 1 can't start
 
-pub returns-in_default-clause-faults : goal.returns-in_default-clause-faults
-returns-in_default-clause-faults g c = falls-refl (map g.O.Outside.faults c.args.outsides.now.items)
+pub returns-in-Err-clause-runs : goal.returns-in-Err-clause-runs
+returns-in-Err-clause-runs g c = inr (c.end_unstarted.ensures.ends c.args.options.now c.args.valid.parts c.in-Err.ensures.refused)
 
-pub returns-in_default-clause-waits : goal.returns-in_default-clause-waits
-returns-in_default-clause-waits g c = falls-refl (map g.O.Outside.waits c.args.outsides.now.items)
+pub returns-in-Err-clause-returned : goal.returns-in-Err-clause-returned
+returns-in-Err-clause-returned g c returns stayed =
+    inr (unstarted-memory c.args.options.now c.args.valid.parts _ c.end_unstarted.result returns (c.end_unstarted.ensures.ends c.args.options.now c.args.valid.parts c.in-Err.ensures.refused))
 
-pub returns-in_default-clause-rests : goal.returns-in_default-clause-rests
-returns-in_default-clause-rests g c = falls-refl (map g.O.Outside.rests c.args.outsides.now.items)
+pub returns-in-Err-clause-clocks : goal.returns-in-Err-clause-clocks
+returns-in-Err-clause-clocks g c = goes-refl (map g.O.Outside.clock c.args.outsides.now.items)
+
+pub returns-in-Err-clause-faults : goal.returns-in-Err-clause-faults
+returns-in-Err-clause-faults g c = falls-refl (map g.O.Outside.faults c.args.outsides.now.items)
+
+pub returns-in-Err-clause-waits : goal.returns-in-Err-clause-waits
+returns-in-Err-clause-waits g c = falls-refl (map g.O.Outside.waits c.args.outsides.now.items)
+
+pub returns-in-Err-clause-rests : goal.returns-in-Err-clause-rests
+returns-in-Err-clause-rests g c = falls-refl (map g.O.Outside.rests c.args.outsides.now.items)
+
+-- the run is over
 
 pub write_report-status-requires-clause-reportable : goal.write_report-status-requires-clause-reportable
 write_report-status-requires-clause-reportable g c =
     IsRun-reportable _ c.run_first-journal.result c.run_first-journal.ensures.journal.journal_is_run
 
 pub returns-clause-runs : goal.returns-clause-runs
-returns-clause-runs g c list is =
+returns-clause-runs g c =
     let before = map g.O.Outside.clock c.args.outsides.now.items in
     let after = map g.O.Outside.clock c.run_first-journal.new.outsides.items in
     inl (record {
-      journal = subst (λ (s : Setting (List SmallInstr)). OneJournal s before after c.run_first-journal.result)
-          (setting-small c.args.«module» c.in-Ok.node list c.in-Ok.ensures is) c.run_first-journal.ensures.journal;
+      begun = refl;
+      journal = journal-of-parts c.args.options.now c.args.valid before after c.run_first-journal.result
+          (subst (λ (s : Setting ValidModule). OneJournal s before after c.run_first-journal.result)
+          (setting-valid c.args.options.now c.args.valid c.in-Ok.node c.in-Ok.ensures.made) c.run_first-journal.ensures.journal);
       writes = c.write_report-status.ensures.writes;
     })
 
-pub returns-clause-done : goal.returns-clause-done
-returns-clause-done g c list is short stayed =
-    let ended = subst (λ (s : Setting (List SmallInstr)). EndsByLast s (told c.run_first-journal.result) c.run_first-journal.result.entries)
-    (setting-small c.args.«module» c.in-Ok.node list c.in-Ok.ensures is) c.run_first-journal.ensures.ended in
-    done-or-memory list c.run_first-journal.result c.write_report-status.result _ _ _ _ short ended c.write_report-status.ensures.writes c.write_report-status.ensures.unwritten stayed
+pub returns-clause-returned : goal.returns-clause-returned
+returns-clause-returned g c returns stayed =
+    let ended = subst (λ (s : Setting ValidModule). EndsByLast s (told c.run_first-journal.result) c.run_first-journal.result.entries)
+    (setting-valid c.args.options.now c.args.valid c.in-Ok.node c.in-Ok.ensures.made) c.run_first-journal.ensures.ended in
+    done-or-memory c.args.options.now c.args.valid c.run_first-journal.result c.write_report-status.result _ _ _ _ returns ended
+    c.write_report-status.ensures.writes c.write_report-status.ensures.unwritten stayed
+
+pub returns-clause-refused : goal.returns-clause-refused
+returns-clause-refused g c = (
+  λ three. absurd ((told-ran c.write_report-status.result (reports-told _ _ c.run_first-journal.result c.write_report-status.result c.write_report-status.ensures.writes)).0 three),
+  λ some. absurd (cc),
+)

@@ -1,35 +1,56 @@
 use Rattle.std.proofs.Common.{map}
-use Rattle.lunatic_cli.proofs.Completions.{small_completes, judged_is_read}
+use Rattle.lunatic_cli.proofs.Completions.{module_completes, judged_is_read}
 use Rattle.lunatic_cli.proofs.Outsides.{falls-refl, goes-refl}
-use Rattle.lunatic_cli.proofs.SmallStatus.{small-is-short}
-use Rattle.lunatic_cli.proofs.Told.{runs-read}
+use Rattle.lunatic_cli.proofs.RunFile.{headline-of, refused-run, refused-unrun}
+use Rattle.lunatic_cli.proofs.Told.{runs-read, begun-told, unbegun-refused, stalled-by, stalls-by, starved-by}
 use Rattle.lunatic_cli.proofs.run_file.run_call.Goals as goal
 
--- a small module
+-- an accepted module
+
+pub returns-in-Ok-clause-headline : goal.returns-in-Ok-clause-headline
+returns-in-Ok-clause-headline g c three four five eight =
+    headline-of _ _ c.args.options.now c.in-Ok.valid.parts _ c.run.result c.in-Ok.ensures.accepted (rw c.in-Ok.ensures.silent at c.run.ensures.runs) three five eight
 
 pub returns-in-Ok-clause-ends : goal.returns-in-Ok-clause-ends
 returns-in-Ok-clause-ends g c =
-    let small = c.in-Ok.ensures.small in
-    let run = rw c.in-Ok.ensures.silent at (c.run.ensures.runs small.0 small.3) in
-    rw c.run.ensures.verdict (record { list = small.0; file = small.1; accepted = small.2; run = run })
+    let run = rw c.in-Ok.ensures.silent at c.run.ensures.runs in
+    rw c.run.ensures.verdict (record { module_of_file = c.in-Ok.valid.parts; file = c.in-Ok.ensures.accepted; run = run })
+
+pub returns-in-Ok-clause-stalled : goal.returns-in-Ok-clause-stalled
+returns-in-Ok-clause-stalled g c stall = stalled-by c.args.options.now c.in-Ok.valid.parts _ c.run.result c.run.ensures.runs stall
+
+pub returns-in-Ok-clause-stalls : goal.returns-in-Ok-clause-stalls
+returns-in-Ok-clause-stalls g c six = stalls-by c.args.options.now c.in-Ok.valid.parts _ c.run.result c.run.ensures.runs six
+
+pub returns-in-Ok-clause-starved : goal.returns-in-Ok-clause-starved
+returns-in-Ok-clause-starved g c starve = starved-by c.args.options.now c.in-Ok.valid.parts _ c.run.result c.run.ensures.runs starve
+
+pub returns-in-Ok-clause-refused : goal.returns-in-Ok-clause-refused
+returns-in-Ok-clause-refused g c = refused-run c.run.result.verdict c.run.result.start c.run.result.status c.run.ensures.verdict c.run.ensures.refused
 
 pub returns-in-Ok-clause-completes : goal.returns-in-Ok-clause-completes
 returns-in-Ok-clause-completes g c files lacks sink =
-    let small = c.in-Ok.ensures.small in
     let stayed = rw (← c.in-Ok.ensures.silent) at sink in
-    small_completes c.accepted_alone.ensures _ _ small.0 _ small.1 small.2
-    (c.run.ensures.done small.0 small.3 (small-is-short small.1.bytes small.0 small.1.is_small) stayed)
+    module_completes c.accepted_alone.ensures c.one_module.ensures _ _ c.args.options.now c.in-Ok.valid.parts c.run.result.status c.in-Ok.ensures.accepted
+    (record {
+      begun = λ begun. begun-told c.args.options.now c.in-Ok.valid.parts _ c.run.result _ _ c.run.ensures.runs c.run.ensures.unwritten stayed begun;
+      returned = λ returns. c.run.ensures.returned returns stayed;
+      unbegun = λ why unbegun. unbegun-refused c.args.options.now c.in-Ok.valid.parts _ c.run.result why c.run.ensures.runs unbegun;
+    })
 
 pub returns-in-Ok-clause-unread_told : goal.returns-in-Ok-clause-unread_told
 returns-in-Ok-clause-unread_told g c =
-    let small = c.in-Ok.ensures.small in
-    judged_is_read _ _ small.1.bytes _ _ _ small.1.is_content (runs-read _ _ _ _ _ _ _ (c.run.ensures.runs small.0 small.3))
+    judged_is_read _ _ c.in-Ok.ensures.accepted.bytes _ _ _ c.in-Ok.ensures.accepted.is_content (runs-read c.args.options.now c.in-Ok.valid.parts _ c.run.result c.run.ensures.runs)
 
 -- nothing ran
 
 pub returns-in-Err-clause-ends : goal.returns-in-Err-clause-ends
 returns-in-Err-clause-ends g c =
-    c.in-Err.ensures.ends (map g.O.Outside.clock c.args.outsides.now.items) (map g.O.Outside.clock c.args.outsides.now.items)
+    c.in-Err.ensures.ends c.args.options.now (map g.O.Outside.clock c.args.outsides.now.items) (map g.O.Outside.clock c.args.outsides.now.items)
+
+pub returns-in-Err-clause-refused : goal.returns-in-Err-clause-refused
+returns-in-Err-clause-refused g c =
+    refused-unrun c.in-Err.finish.verdict c.in-Err.finish.start c.in-Err.finish.status c.in-Err.ensures.unaccepted c.in-Err.ensures.unstarted c.in-Err.ensures.refused
 
 pub returns-in-Err-clause-clocks : goal.returns-in-Err-clause-clocks
 returns-in-Err-clause-clocks g c = goes-refl (map g.O.Outside.clock c.args.outsides.now.items)
