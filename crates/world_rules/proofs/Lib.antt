@@ -1,3 +1,12 @@
+mod Walk
+mod MildWalk
+mod WholeWalk
+mod Chains
+mod Rising
+mod Keeping
+mod ReadyList
+mod SoundLaws
+mod Least
 mod Worked
 mod WorkedMail
 mod WorkedKill

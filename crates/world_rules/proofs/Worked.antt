@@ -1,8 +1,7 @@
-use Rattle.std.specs.Prelude.{◌≡◌, ℕ, List, [], ◌∷◌, ◌++◌, Option, Some, None, true, codes, replicate, map}
+use Rattle.std.specs.Prelude.{◌≡◌, ℕ, List, [], ◌∷◌, Option, Some, None, true, codes, map}
 use Rattle.host_port.specs.declared.start.Start.{Start}
 use Rattle.host_port.specs.declared.call.Call.{Call}
 use Rattle.host_port.specs.declared.request.Request.{Request}
-use Rattle.host_port.specs.declared.reply.Reply.{Reply}
 use Rattle.world_rules.specs.declared.entry.Entry.{Entry}
 use Rattle.world_rules.specs.declared.entry.Entry.TheVariants as EntryIs
 use Rattle.world_rules.specs.declared.entry.Side.{Side}
@@ -10,8 +9,8 @@ use Rattle.world_rules.specs.declared.entry.Side.TheVariants as SideIs
 use Rattle.world_rules.specs.declared.halt.Halt.{Halt}
 use Rattle.world_rules.specs.declared.halt.Halt.TheVariants as HaltIs
 use Rattle.world_rules.specs.declared.life.Birth.{Birth}
-use Rattle.world_rules.specs.declared.life.Birth.TheVariants.{Born, Refused}
-use Rattle.world_rules.specs.World.{World, Process, first_world}
+use Rattle.world_rules.specs.declared.life.Birth.TheVariants.{Born}
+use Rattle.world_rules.specs.World.{World, first_world}
 use Rattle.world_rules.specs.Told.{all_after}
 
 -- Words for small journals.

@@ -1,6 +1,5 @@
-use Rattle.std.specs.Prelude.{◌≡◌, ℕ, List, [], ◌∷◌, length, map, Option, Some, None, true, false, replicate, codes, refl}
+use Rattle.std.specs.Prelude.{◌≡◌, ℕ, List, [], ◌∷◌, length, map, Some, false, codes, refl}
 use Rattle.host_port.specs.declared.start.Start.{Start}
-use Rattle.host_port.specs.declared.request.Request.{Request}
 use Rattle.host_port.specs.Rows.{Row}
 use Rattle.host_port.specs.declared.row.Kind.{Kind}
 use Rattle.host_port.specs.declared.row.Kind.TheVariants.{Local, World, Outside}
@@ -9,7 +8,7 @@ use Rattle.world_rules.specs.declared.halt.HostFault.TheVariants as FaultIs
 use Rattle.world_rules.specs.Calls.{all_calls}
 use Rattle.world_rules.specs.Part.{Part, no_part, blank_message, unread}
 use Rattle.world_rules.specs.Judge.{judge, cost_of, charged, Fit, Overdrawn, Faulty}
-use Rattle.world_rules.proofs.Worked.{start_of, request, plain, send, receive_any, receive_tag, read_stream, spawn_linked, minus_one}
+use Rattle.world_rules.proofs.Worked.{start_of, request, plain, send, receive_any, receive_tag, read_stream, spawn_linked}
 
 -- WHO PERFORMS A CALL, by rising number: messages but send and receive are local; processes and the registry are the world's, but
 -- process_id; configs are local; the network is the outside's, but the two drops; print is local.

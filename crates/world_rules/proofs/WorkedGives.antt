@@ -1,11 +1,9 @@
-use Rattle.std.specs.Prelude.{◌≡◌, ◌⊎◌, ℕ, ◌+◌, ◌≤◌, ◌<◌, List, [], ◌∷◌, ◌++◌, Option, Some, None, true, false, refl}
+use Rattle.std.specs.Prelude.{◌≡◌, ℕ, ◌≤◌, List, [], ◌∷◌, ◌++◌, Option, Some, None, true, false, refl}
 use native.Mathlib.Omega.{arith}
 use Rattle.std.proofs.Common.{subst, sym}
 use Rattle.std.specs.Option.{unwrap_or}
 use Rattle.host_port.specs.declared.call.Call.{Call}
-use Rattle.host_port.specs.declared.request.Request.{Request}
 use Rattle.host_port.specs.declared.reply.Reply.{Reply}
-use Rattle.wasm_ops.specs.declared.trap.Trap.TheVariants as TrapIs
 use Rattle.host_port.specs.HostTable.{known_row_of, all_rows}
 use Rattle.world_rules.specs.declared.entry.Entry.{Entry}
 use Rattle.world_rules.specs.declared.entry.Entry.TheVariants as EntryIs
@@ -19,7 +17,7 @@ use Rattle.world_rules.specs.declared.halt.End.TheVariants as EndIs
 use Rattle.world_rules.specs.declared.life.Birth.{Birth}
 use Rattle.world_rules.specs.World.{World}
 use Rattle.world_rules.specs.Allowed.{Allowed}
-use Rattle.world_rules.proofs.Worked.{AreSame, born_of, plain, numbered, silent, minus_one, create_data, send, receive_any, connect, read_stream, take_by, turn, turn_beside, world_after}
+use Rattle.world_rules.proofs.Worked.{AreSame, born_of, plain, numbered, silent, create_data, send, receive_any, connect, read_stream, take_by, turn_beside, world_after}
 
 -- GIVES. Process 1 is out to worker 0, without a scratch message and with nothing owed.
 

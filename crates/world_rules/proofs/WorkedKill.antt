@@ -1,5 +1,4 @@
-use Rattle.std.specs.Prelude.{◌≡◌, ℕ, List, [], ◌∷◌, ◌++◌, Option, Some, None, true, false, map, refl}
-use Rattle.host_port.specs.declared.call.Call.{Call}
+use Rattle.std.specs.Prelude.{◌≡◌, List, [], ◌∷◌, ◌++◌, Some, None, refl}
 use Rattle.host_port.specs.HostTable.{known_row_of, all_rows}
 use Rattle.world_rules.specs.declared.entry.Entry.{Entry}
 use Rattle.world_rules.specs.declared.entry.Entry.TheVariants as EntryIs
@@ -8,7 +7,7 @@ use Rattle.world_rules.specs.declared.halt.Halt.TheVariants as HaltIs
 use Rattle.world_rules.specs.declared.halt.End.TheVariants as EndIs
 use Rattle.world_rules.specs.declared.life.Birth.{Birth}
 use Rattle.world_rules.specs.Moves.{handled, Table, Closed}
-use Rattle.world_rules.specs.World.{World, Process, Exit, Doomed, Ended}
+use Rattle.world_rules.specs.World.{World, Doomed, Ended}
 use Rattle.world_rules.proofs.Worked.{born_of, numbered, silent, create_data, push_stream, send, spawn_linked, kill, connect, turn, turn_beside, take_by, asks_by, world_after, results}
 
 -- A KILL OF A PROCESS THAT IS OUT. Processes 1, 2 and 3; handle 0 is in process 2's table. Worker 0 takes 2, worker 1 takes 1.

@@ -1,15 +1,14 @@
-use Rattle.std.specs.Prelude.{◌≡◌, ℕ, List, [], ◌∷◌, ◌++◌, Option, Some, None, true, false, map, refl}
+use Rattle.std.specs.Prelude.{◌≡◌, ℕ, List, [], ◌∷◌, ◌++◌, Some, None, refl}
 use Rattle.wasm_ops.specs.declared.trap.Trap.TheVariants as TrapIs
 use Rattle.host_port.specs.HostTable.{known_row_of, all_rows}
 use Rattle.world_rules.specs.declared.entry.Entry.{Entry}
-use Rattle.world_rules.specs.declared.entry.Entry.TheVariants as EntryIs
 use Rattle.world_rules.specs.declared.entry.Side.TheVariants as SideIs
 use Rattle.world_rules.specs.declared.halt.Halt.TheVariants as HaltIs
 use Rattle.world_rules.specs.declared.halt.End.{End}
 use Rattle.world_rules.specs.declared.halt.End.TheVariants as EndIs
 use Rattle.world_rules.specs.declared.life.Birth.{Birth}
 use Rattle.world_rules.specs.Mail.{Signal}
-use Rattle.world_rules.specs.World.{World, Process, Exit, link_between}
+use Rattle.world_rules.specs.World.{World, Exit, link_between}
 use Rattle.world_rules.proofs.Worked.{born_of, minus_one, spawn_linked, link, die_when_link_dies, sleep_ms, receive_any, kill, turn, turn_beside, turn_ends, world_after, results}
 
 -- THE RING. Processes 2, 3 and 4 are linked in a ring and live; 2 traps unreachable. The lines are those of 2, 3 and 4 (linked), in

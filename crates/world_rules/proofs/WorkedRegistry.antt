@@ -1,14 +1,13 @@
-use Rattle.std.specs.Prelude.{◌≡◌, ℕ, List, [], ◌∷◌, ◌++◌, Option, Some, None, map, codes, length, refl}
+use Rattle.std.specs.Prelude.{◌≡◌, ℕ, List, [], ◌∷◌, ◌++◌, Some, map, codes, refl}
 use Rattle.host_port.specs.declared.call.Call.{Call}
 use Rattle.host_port.specs.declared.request.Request.{Request}
-use Rattle.host_port.specs.declared.reply.Word.{Word}
 use Rattle.host_port.specs.HostTable.{known_row_of, all_rows}
 use Rattle.world_rules.specs.declared.entry.Entry.{Entry}
 use Rattle.world_rules.specs.declared.entry.Side.TheVariants as SideIs
 use Rattle.world_rules.specs.declared.halt.Halt.TheVariants as HaltIs
 use Rattle.world_rules.specs.declared.life.Birth.{Birth}
 use Rattle.world_rules.specs.Streams.{word_value}
-use Rattle.world_rules.specs.World.{World, Process}
+use Rattle.world_rules.specs.World.{World}
 use Rattle.world_rules.proofs.Worked.{born_of, request, spawn_linked, sleep_ms, turn, turn_beside, turn_ends, world_after, results}
 
 -- THE REGISTRY. A put of `a` with process 2 answers 0; after 2 ended, a get of `a` answers 1. A put of `b` with 3, then with 4: a get

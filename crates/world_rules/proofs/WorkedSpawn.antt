@@ -1,21 +1,16 @@
-use Rattle.std.specs.Prelude.{◌≡◌, ◌⊎◌, ℕ, ◌≤◌, ◌<◌, List, [], ◌∷◌, ◌++◌, All, Option, Some, None, true, false, map, refl}
+use Rattle.std.specs.Prelude.{◌≡◌, ◌≤◌, ◌<◌, [], ◌∷◌, ◌++◌, Some, None, true, refl}
 use native.Mathlib.Omega.{arith}
 use Rattle.std.proofs.Common.{inl, inr}
-use Rattle.host_port.specs.declared.start.Start.{Start}
-use Rattle.host_port.specs.declared.request.Request.{Request}
 use Rattle.host_port.specs.HostTable.{known_row_of, all_rows}
 use Rattle.world_rules.specs.declared.entry.Entry.{Entry}
-use Rattle.world_rules.specs.declared.entry.Entry.TheVariants as EntryIs
 use Rattle.world_rules.specs.declared.entry.Side.TheVariants as SideIs
-use Rattle.world_rules.specs.declared.halt.Halt.TheVariants as HaltIs
 use Rattle.world_rules.specs.declared.life.Birth.{Birth}
-use Rattle.world_rules.specs.declared.life.Birth.TheVariants.{Born, Refused}
+use Rattle.world_rules.specs.declared.life.Birth.TheVariants.{Refused}
 use Rattle.world_rules.specs.World.{World, Process, Unborn, Ready, link_between}
 use Rattle.world_rules.specs.Births.{Terms, BirthFits}
 use Rattle.world_rules.specs.Spawn.{child_limits}
 use Rattle.world_rules.specs.Part.{with_config, no_part}
-use Rattle.world_rules.specs.Allowed.{Allowed}
-use Rattle.world_rules.proofs.Worked.{AreSame, born_of, start_of, request, spawn_linked, turn, turn_beside, take_by, asks_by, world_after, results}
+use Rattle.world_rules.proofs.Worked.{AreSame, born_of, start_of, spawn_linked, turn, take_by, asks_by, world_after, results}
 
 -- SPAWN. With the live limit 1 a spawn answers 2. A spawn that finds no program answers 1; then the next good spawn answers 0 with
 -- process number 2.

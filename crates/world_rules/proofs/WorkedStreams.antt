@@ -1,5 +1,4 @@
-use Rattle.std.specs.Prelude.{◌≡◌, ℕ, List, [], ◌∷◌, ◌++◌, Option, Some, None, true, false, map, option_map, refl}
-use Rattle.host_port.specs.declared.call.Call.{Call}
+use Rattle.std.specs.Prelude.{◌≡◌, List, [], ◌∷◌, ◌++◌, Some, None, true, map, refl}
 use Rattle.host_port.specs.declared.reply.Reply.{Reply}
 use Rattle.host_port.specs.HostTable.{known_row_of, all_rows}
 use Rattle.world_rules.specs.declared.entry.Entry.{Entry}
@@ -7,11 +6,10 @@ use Rattle.world_rules.specs.declared.entry.Side.TheVariants as SideIs
 use Rattle.world_rules.specs.declared.halt.Halt.TheVariants as HaltIs
 use Rattle.world_rules.specs.declared.halt.HostFault.TheVariants as FaultIs
 use Rattle.world_rules.specs.declared.life.Birth.{Birth}
-use Rattle.world_rules.specs.Part.{Part, Scratch, slots_of}
+use Rattle.world_rules.specs.Part.{slots_of}
 use Rattle.world_rules.specs.Judge.{judge, Faulty}
-use Rattle.world_rules.specs.Moves.{Handled, handled, Place, Table, Scratch as InScratch, Mail, Closed}
-use Rattle.world_rules.specs.Streams.{Streamed}
-use Rattle.world_rules.specs.World.{World, Process}
+use Rattle.world_rules.specs.Moves.{handled, Table, Scratch as InScratch, Closed}
+use Rattle.world_rules.specs.World.{World}
 use Rattle.world_rules.proofs.Worked.{born_of, start_of, numbered, silent, minus_one, create_data, push_stream, take_stream, send, receive_any, connect, read_stream, spawn_linked, sleep_ms, turn, turn_beside, turn_ends, world_after, results}
 
 -- A STREAM IS HANDED OVER. Handle 0 is pushed and sent to an ended process: send answers 1; a take of place 0 gives 0; a second take of

@@ -1,6 +1,5 @@
-use Rattle.std.specs.Prelude.{◌≡◌, ℕ, ◌≤◌, ◌<◌, List, [], ◌∷◌, ◌++◌, Option, Some, None, true, false, map, length, nat_eq, refl}
+use Rattle.std.specs.Prelude.{◌≡◌, ℕ, ◌≤◌, ◌<◌, List, [], ◌∷◌, ◌++◌, Option, Some, None, true, false, nat_eq, refl}
 use native.Mathlib.Omega.{arith}
-use Rattle.host_port.specs.declared.start.Start.{Start}
 use Rattle.host_port.specs.HostTable.{known_row_of, all_rows}
 use Rattle.world_rules.specs.declared.entry.Entry.{Entry}
 use Rattle.world_rules.specs.declared.entry.Entry.TheVariants as EntryIs
@@ -9,11 +8,10 @@ use Rattle.world_rules.specs.declared.halt.Halt.TheVariants as HaltIs
 use Rattle.world_rules.specs.declared.halt.End.{End}
 use Rattle.world_rules.specs.declared.halt.End.TheVariants as EndIs
 use Rattle.world_rules.specs.declared.life.Birth.{Birth}
-use Rattle.world_rules.specs.Streams.{Streamed}
-use Rattle.world_rules.specs.World.{World, Process, Exit, Waiting, is_away}
+use Rattle.world_rules.specs.World.{World, Exit, Waiting, is_away}
 use Rattle.world_rules.specs.Births.{Terms}
 use Rattle.world_rules.specs.Allowed.{Allowed}
-use Rattle.world_rules.proofs.Worked.{born_of, start_of, minus_one, sleep_ms, receive_any, connect, read_stream, turn, turn_beside, turn_ends, take_by, world_after, results}
+use Rattle.world_rules.proofs.Worked.{born_of, start_of, minus_one, sleep_ms, receive_any, connect, read_stream, turn_beside, take_by, world_after, results}
 
 abbrev births : List Birth
 births = born_of 1 ∷ []

@@ -1,12 +1,10 @@
-use Rattle.std.specs.Prelude.{◌≡◌, ℕ, ◌+◌, ◌-◌, ◌<◌, ◌≤◌, List, [], ◌∷◌, length, slice_get, nat_le, Option, Some, None, Bool, true, false}
-use Rattle.host_port.specs.declared.call.Call.{Call}
+use Rattle.std.specs.Prelude.{◌≡◌, ℕ, ◌+◌, ◌-◌, ◌<◌, ◌≤◌, List, [], length, slice_get, nat_le, Option, Some, None, Bool, true, false}
 use Rattle.host_port.specs.declared.request.Request.{Request}
 use Rattle.host_port.specs.declared.reply.Reply.{Reply}
 use Rattle.turn_rules.specs.Turn.{turn_fuel, most_answers, IsUsedUp}
 use Rattle.world_rules.specs.declared.entry.Entry.{Entry}
 use Rattle.world_rules.specs.declared.entry.Side.{Side}
 use Rattle.world_rules.specs.declared.entry.Side.TheVariants as SideIs
-use Rattle.world_rules.specs.declared.halt.End.{End}
 use Rattle.world_rules.specs.declared.halt.End.TheVariants as EndIs
 use Rattle.world_rules.specs.declared.halt.HostFault.{HostFault}
 use Rattle.world_rules.specs.declared.life.Birth.{Birth}

@@ -1,4 +1,4 @@
-use Rattle.std.specs.Prelude.{ℕ, List, Option, Some, None}
+use Rattle.std.specs.Prelude.{ℕ, List, Some, None}
 use Rattle.host_port.specs.declared.reply.Reply.{Reply}
 
 -- The replies that rules give.

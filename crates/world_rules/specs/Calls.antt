@@ -1,4 +1,4 @@
-use Rattle.std.specs.Prelude.{ℕ, ◌+◌, ◌≤◌, List, [], ◌∷◌, slice_get, slice_index, Option, Some, None}
+use Rattle.std.specs.Prelude.{ℕ, List, [], ◌∷◌, slice_get, slice_index, Option}
 use Rattle.host_port.specs.declared.request.Request.{Request}
 
 -- The host calls by their names. The rules speak of names alone.

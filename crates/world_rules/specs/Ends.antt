@@ -1,11 +1,11 @@
-use Rattle.std.specs.Prelude.{ℕ, ◌||◌, List, [], ◌∷◌, ◌++◌, map, Option, Some, None, true, nat_eq, if◌then◌else◌}
+use Rattle.std.specs.Prelude.{ℕ, ◌||◌, List, [], ◌∷◌, ◌++◌, Option, Some, None, true, nat_eq, if◌then◌else◌}
 use Rattle.world_rules.specs.declared.halt.End.{End}
 use Rattle.world_rules.specs.declared.halt.End.TheVariants as EndIs
 use Rattle.world_rules.specs.Arrivals as Came
 use Rattle.world_rules.specs.Part.{no_part, scratch_handles}
 use Rattle.world_rules.specs.Mail.{mail_handles}
 use Rattle.world_rules.specs.Moves.{ShutAll, ShutMail}
-use Rattle.world_rules.specs.World.{World, Process, Exit, Stage, Unborn, Ready, Out, Waiting, Doomed, Ended, with_process, with_moves, with_closed, is_ended, live_processes}
+use Rattle.world_rules.specs.World.{World, Process, Stage, Unborn, Ready, Out, Waiting, Doomed, Ended, with_process, with_moves, with_closed, live_processes}
 use Rattle.world_rules.specs.Changes.{with_arrival}
 
 -- How processes end.

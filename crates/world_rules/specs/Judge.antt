@@ -1,4 +1,4 @@
-use Rattle.std.specs.Prelude.{ℕ, ◌+◌, List, length, Option, Some, None, Bool, true, false, not, nat_eq, nat_lt, nat_le, is_some, if◌then◌else◌}
+use Rattle.std.specs.Prelude.{ℕ, ◌+◌, length, Option, Some, None, Bool, true, false, nat_eq, nat_lt, nat_le, is_some, if◌then◌else◌}
 use Rattle.std.specs.Option.{option_or}
 use Rattle.host_port.specs.declared.start.Start.{Start}
 use Rattle.host_port.specs.declared.request.Request.{Request}

@@ -3,7 +3,7 @@ use Rattle.world_rules.specs.declared.entry.Entry.{Entry}
 use Rattle.world_rules.specs.declared.life.Birth.{Birth}
 use Rattle.world_rules.specs.declared.life.Birth.TheVariants.{Born}
 use Rattle.world_rules.specs.Book.{Book}
-use Rattle.world_rules.specs.Views.{Cause, Stuck, Idling, Starving, Deed, Taking, Giving, Timing, EndingAll, deed_of, worker_of}
+use Rattle.world_rules.specs.Views.{Stuck, Idling, Starving, Deed, Taking, Giving, Timing, EndingAll, deed_of, worker_of}
 use Rattle.world_rules.specs.World.{World, first_world}
 use Rattle.world_rules.specs.Rules.{next}
 use Rattle.world_rules.specs.Births.{Terms}

@@ -26,6 +26,9 @@ pub mod Allowed
 pub mod Book
 pub mod Told
 pub mod Legal
+pub mod Touches
+pub mod Sound
+pub mod Falls
 pub mod Lives
 pub mod Report
 pub mod Life

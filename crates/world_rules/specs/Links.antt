@@ -1,4 +1,4 @@
-use Rattle.std.specs.Prelude.{ℕ, zero, suc, ◌&&◌, ◌||◌, List, [], ◌∷◌, map, filter, filter_map, flat_map, min, max, option_map, Option, Some, None, Bool, true, false, not, nat_eq, is_some, if◌then◌else◌}
+use Rattle.std.specs.Prelude.{ℕ, zero, suc, ◌&&◌, ◌||◌, List, [], ◌∷◌, filter, filter_map, flat_map, min, max, option_map, Option, Some, None, Bool, true, false, not, nat_eq, is_some, if◌then◌else◌}
 use Rattle.std.specs.List.{list_any}
 use Rattle.host_port.specs.declared.request.Request.{Request}
 use Rattle.world_rules.specs.declared.halt.End.{End}
@@ -7,7 +7,7 @@ use Rattle.world_rules.specs.Calls.{arg}
 use Rattle.world_rules.specs.Answers.{empty_reply, number_reply}
 use Rattle.world_rules.specs.Part.{is_among, without_number}
 use Rattle.world_rules.specs.Mail.{Signal}
-use Rattle.world_rules.specs.World.{World, Process, is_live, with_process, link_between, live_processes, up_to}
+use Rattle.world_rules.specs.World.{World, is_live, with_process, link_between, live_processes, up_to}
 use Rattle.world_rules.specs.Changes.{replied}
 use Rattle.world_rules.specs.Receive.{arrived, unless_refused}
 use Rattle.world_rules.specs.Ends.{ended, struck, all_struck, closed_with_first}

@@ -1,10 +1,10 @@
-use Rattle.std.specs.Prelude.{ℕ, ◌+◌, List, [], ◌∷◌, Option, Some, None, Bool, true, false, nat_eq, nat_lt, if◌then◌else◌}
+use Rattle.std.specs.Prelude.{ℕ, ◌+◌, [], ◌∷◌, Option, Some, None, Bool, true, false, nat_eq, nat_lt, if◌then◌else◌}
 use Rattle.host_port.specs.declared.request.Request.{Request}
 use Rattle.host_port.specs.declared.reply.Reply.{Reply}
 use Rattle.world_rules.specs.Calls.{HostCall, call_of, arg}
 use Rattle.world_rules.specs.Calls as CallIs
 use Rattle.world_rules.specs.Answers.{number_reply}
-use Rattle.world_rules.specs.Part.{Scratch, Message, scratch_handles}
+use Rattle.world_rules.specs.Part.{Scratch, scratch_handles}
 use Rattle.world_rules.specs.Mail.{MailItem, Letter, Signal, tags_in, pick, unpicked, message_count, most_messages}
 use Rattle.world_rules.specs.Settled.{settled, SentOff, Delivered}
 use Rattle.world_rules.specs.Moves.{Sent}

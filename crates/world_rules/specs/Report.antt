@@ -1,4 +1,4 @@
-use Rattle.std.specs.Prelude.{◌≡◌, ℕ, Option, Some, None, List, [], ◌∷◌, ◌++◌, length, drop, map, codes}
+use Rattle.std.specs.Prelude.{◌≡◌, ℕ, Option, Some, List, [], ◌∷◌, ◌++◌, length, drop, map, codes}
 use Rattle.std.specs.Fmt.{decimal}
 use Rattle.wasm_ops.specs.declared.trap.Trap.{Trap}
 use Rattle.wasm_ops.specs.declared.trap.Trap.TheVariants as TrapIs

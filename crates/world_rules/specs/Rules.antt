@@ -1,15 +1,13 @@
-use Rattle.std.specs.Prelude.{ℕ, ◌+◌, List, [], ◌∷◌, ◌++◌, length, filter, Option, Some, None, Bool, true, false, not, nat_eq, is_some, is_none, if◌then◌else◌}
+use Rattle.std.specs.Prelude.{ℕ, ◌+◌, List, [], ◌∷◌, ◌++◌, length, filter, Option, Some, None, Bool, true, false, not, nat_eq, is_some, if◌then◌else◌}
 use Rattle.std.specs.Option.{option_map_or}
 use Rattle.host_port.specs.declared.request.Request.{Request}
 use Rattle.world_rules.specs.declared.entry.Entry.{Entry}
-use Rattle.world_rules.specs.declared.halt.Halt.{Halt}
-use Rattle.world_rules.specs.declared.halt.End.{End}
 use Rattle.world_rules.specs.declared.life.Birth.{Birth}
 use Rattle.world_rules.specs.declared.entry.Side.{Side}
 use Rattle.world_rules.specs.Views.{Given, Deed, Taking, Giving, Timing, EndingAll, deed_of, end_by, Want, Goes, Wants, Retries, Ends, want_of, wanted_in, asked_in, is_starved, is_pending, is_opened, is_refused}
 use Rattle.world_rules.specs.Calls.{HostCall, call_of, arg}
 use Rattle.world_rules.specs.Calls as CallIs
-use Rattle.world_rules.specs.Answers.{empty_reply, number_reply}
+use Rattle.world_rules.specs.Answers.{number_reply}
 use Rattle.world_rules.specs.Part.{Part, is_among}
 use Rattle.world_rules.specs.Judge.{charged}
 use Rattle.world_rules.specs.Local.{part_after}

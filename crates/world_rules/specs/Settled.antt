@@ -1,5 +1,5 @@
-use Rattle.std.specs.Prelude.{ℕ, ◌+◌, List, [], ◌∷◌, ◌++◌, Option, Some, None}
-use Rattle.world_rules.specs.Part.{Part, Message, Scratch, blank_message, unread, with_number}
+use Rattle.std.specs.Prelude.{ℕ, ◌+◌, [], ◌∷◌, ◌++◌, Some, None}
+use Rattle.world_rules.specs.Part.{Part, Message, blank_message, unread, with_number}
 use Rattle.world_rules.specs.Mail.{MailItem, Letter, Signal}
 
 -- What a call of the world or of the outside does to the caller's part.

@@ -1,4 +1,4 @@
-use Rattle.std.specs.Prelude.{ℕ, ◌+◌, ◌&&◌, List, [], ◌++◌, length, take, Option, Some, None, Bool, true, false, not, nat_eq, if◌then◌else◌}
+use Rattle.std.specs.Prelude.{ℕ, ◌+◌, ◌&&◌, List, [], ◌++◌, take, Option, Some, None, Bool, true, false, not, nat_eq, if◌then◌else◌}
 use Rattle.std.specs.Option.{option_map_or}
 use Rattle.host_port.specs.declared.request.Request.{Request}
 use Rattle.host_port.specs.declared.reply.Reply.{Reply}

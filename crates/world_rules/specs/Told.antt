@@ -1,10 +1,10 @@
-use Rattle.std.specs.Prelude.{◌≡◌, ℕ, ◌+◌, List, [], ◌∷◌, length, Option, Some, None}
+use Rattle.std.specs.Prelude.{◌≡◌, ℕ, List, [], ◌∷◌, Option, None}
 use Rattle.host_port.specs.declared.call.Call.{Call}
 use Rattle.world_rules.specs.declared.entry.Entry.{Entry}
 use Rattle.world_rules.specs.declared.life.Birth.{Birth}
 use Rattle.world_rules.specs.declared.life.Birth.TheVariants.{Born, Refused}
 use Rattle.world_rules.specs.Book.{Book}
-use Rattle.world_rules.specs.Moves.{Move, Owners, Handled, handled}
+use Rattle.world_rules.specs.Moves.{Move, Owners, handled}
 use Rattle.world_rules.specs.Streams.{Streamed}
 use Rattle.world_rules.specs.Arrivals.{Arrival}
 use Rattle.world_rules.specs.World.{World, first_world}

@@ -1,4 +1,4 @@
-use Rattle.std.specs.Prelude.{◌≡◌, ◌⊎◌, ℕ, ◌+◌, List, [], ◌∷◌, ◌++◌, slice_get, Option, Some, None, refl}
+use Rattle.std.specs.Prelude.{◌≡◌, ℕ, ◌+◌, List, ◌++◌, Option, Some, None}
 use Rattle.std.proofs.Common.{subst, sym, ◌∙◌, inl, inr}
 use Rattle.host_port.specs.declared.request.Request.{Request}
 use Rattle.world_rules.specs.declared.entry.Entry.{Entry}
@@ -8,10 +8,10 @@ use Rattle.world_rules.specs.declared.life.Birth.TheVariants.{Born, Refused}
 use Rattle.world_rules.specs.Views.{Given, Cause, Stuck, Idling, Starving, Deed, Taking, Giving, Timing, EndingAll, deed_of, Want, Goes, Wants, Retries, Ends, want_of}
 use Rattle.world_rules.specs.Calls.{HostCall, call_of}
 use Rattle.world_rules.specs.Calls as CallIs
-use Rattle.world_rules.specs.World.{World, Process, Stage, Unborn, Ready, Out, Waiting, Doomed, Ended}
+use Rattle.world_rules.specs.World.{World, Process, Stage, Out}
 use Rattle.world_rules.specs.Spawn.{next_birth}
-use Rattle.world_rules.specs.Births.{Terms, IsBorn, IsCrowdedOut, IsNumberless, IsStartless, IsMemoryless, IsRefusedBirth, BirthFits}
-use Rattle.world_rules.specs.Allowed.{SpawnFits, BesideFits, AskFits, WantFits, TurnFits, RetryEndsSo, RetryFits, GivesTurn, GiveFits, CauseFits, DeedFits, Allowed}
+use Rattle.world_rules.specs.Births.{Terms, IsRefusedBirth, BirthFits}
+use Rattle.world_rules.specs.Allowed.{SpawnFits, BesideFits, WantFits, RetryEndsSo, GivesTurn, CauseFits, DeedFits, Allowed}
 use Rattle.world_rules.specs.laws.BirthLaws.{birth_found, found_longer}
 
 -- What is allowed stays allowed when births are added behind, and when nothing is tested against the terms. Both are

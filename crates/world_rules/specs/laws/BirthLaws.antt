@@ -1,14 +1,12 @@
-use Rattle.std.specs.Prelude.{◌≡◌, ℕ, ◌+◌, ◌<◌, List, [], ◌∷◌, ◌++◌, length, slice_get, get_or, Option, Some, None, IsSome, Bool, true, false, nat_eq, if◌then◌else◌, refl}
+use Rattle.std.specs.Prelude.{◌≡◌, ℕ, ◌+◌, ◌<◌, List, [], ◌∷◌, ◌++◌, length, slice_get, Option, Some, None, Bool, true, false, nat_eq, if◌then◌else◌, refl}
 use Rattle.std.proofs.Common.{subst, sym, ◌∙◌, ap, length-append, arith}
 use Rattle.std.proofs.lemmas.Bool.Decides.{nat_tests}
 use Rattle.std.specs.Option.{option_map_or, unwrap_or}
 use Rattle.std.proofs.lemmas.Option.{slice_get_within, slice_get-get_or, get_or_from_slice_get}
 use Rattle.std.proofs.lemmas.List.{get_or_append_left}
 use Rattle.host_port.specs.declared.request.Request.{Request}
-use Rattle.host_port.specs.declared.reply.Reply.{Reply}
 use Rattle.world_rules.specs.declared.entry.Entry.{Entry}
 use Rattle.world_rules.specs.declared.entry.Side.{Side}
-use Rattle.world_rules.specs.declared.halt.Halt.{Halt}
 use Rattle.world_rules.specs.declared.life.Birth.{Birth}
 use Rattle.world_rules.specs.Views.{Given, Deed, Taking, Giving, Timing, EndingAll, deed_of, Want, Goes, Wants, Retries, Ends, want_of, wanted_in, is_starved, clock_in, is_pending}
 use Rattle.world_rules.specs.Calls.{HostCall, call_of}
@@ -19,8 +17,8 @@ use Rattle.world_rules.specs.World.{World, Process, Stage, Unborn, Ready, Out, W
 use Rattle.world_rules.specs.Spawn.{next_birth, spawned}
 use Rattle.world_rules.specs.Time.{clocked, at_time}
 use Rattle.world_rules.specs.Births.{Terms, BirthFits}
-use Rattle.world_rules.specs.Allowed.{Allowed, DeedFits, GiveFits, TurnFits, RetryFits, GivesTurn, SpawnFits, WantFits, RetryEndsSo}
-use Rattle.world_rules.specs.Rules.{call_performed, performed, asked, retried, halted, given, recorded, home, turned, starved_by, streamed_in, happened, next, next_by, with_row, queued, row_after, giver_of}
+use Rattle.world_rules.specs.Allowed.{Allowed, DeedFits, GiveFits, GivesTurn, SpawnFits, WantFits, RetryEndsSo}
+use Rattle.world_rules.specs.Rules.{call_performed, performed, asked, retried, halted, given, recorded, home, turned, starved_by, streamed_in, happened, next, with_row, queued, row_after, giver_of}
 use Rattle.world_rules.specs.Told.{all_after, AllAllowed}
 
 -- Births are read by performed spawns alone, and each spawn finds its own; so more births behind change no world that
@@ -115,7 +113,7 @@ wanted_by w give = wanted_in (want_of give.halt) (w.process give.pid).owed
 abbrev pub counted : World → Given → World
 counted w give = streamed_in (wanted_by w give) give (clocked give.side w)
 
-spawns_recorded : (w : World) (give : Given) → (recorded w give).spawns ≡ w.spawns
+pub spawns_recorded : (w : World) (give : Given) → (recorded w give).spawns ≡ w.spawns
 spawns_recorded w give =
     spawns_starved (is_starved give.halt) give (counted w give)
     ∙ spawns_streamed (wanted_by w give) give (clocked give.side w) ∙ spawns_clocked (clock_in give.side) w
@@ -124,7 +122,7 @@ pub process_counted : (w : World) (give : Given) → (counted w give).process �
 process_counted w give =
     process_streamed (wanted_by w give) give (clocked give.side w) ∙ process_clocked (clock_in give.side) w
 
-owed_home : (w : World) (give : Given) →
+pub owed_home : (w : World) (give : Given) →
     ((home (recorded w give) give.pid).process give.pid).owed ≡ (w.process give.pid).owed
 owed_home w give =
     let starved : World = starved_by (counted w give) give in
@@ -160,7 +158,7 @@ spawn_found terms births call stage worker w parent request side spawns out fits
     birth_found terms w parent request side (next_birth births w) (subst Q out (subst P spawns fits))
 
 -- what comes beside the request that a give wants, for some parent
-abbrev HasBirth : Option Terms → List Birth → World → Given → Request → Type 0
+abbrev pub HasBirth : Option Terms → List Birth → World → Given → Request → Type 0
 HasBirth terms births w give request =
     (parent : Process) × SpawnFits terms births (call_of request) (w.process give.pid).stage w parent request give.side
 
@@ -193,7 +191,7 @@ birth_of_retry terms births w p give owed Retries request fits same =
     birth_of_other terms births w give p owed request same fits.birth
 birth_of_retry terms births w p give owed (Ends end) request fits same = absurd (none_is_some same)
 
-birth_of_turn : (terms : Option Terms) (births : List Birth) (w : World) (p : Process) (give : Given)
+pub birth_of_turn : (terms : Option Terms) (births : List Birth) (w : World) (p : Process) (give : Given)
     (owed : Option Request) (request : Request)
     → GivesTurn terms births w p give owed → wanted_in (want_of give.halt) owed ≡ Some request →
     HasBirth terms births w give request

@@ -1,4 +1,4 @@
-use Rattle.std.specs.Prelude.{◌≡◌, ◌≢◌, ◌⊎◌, ℕ, ◌+◌, List, [], ◌∷◌, ◌++◌, length, Option, Some, None, Bool, true, false, not, nat_eq, if◌then◌else◌, refl}
+use Rattle.std.specs.Prelude.{◌≡◌, ◌≢◌, ◌⊎◌, ℕ, ◌+◌, List, [], ◌∷◌, length, Option, Some, None, Bool, true, false, not, nat_eq, if◌then◌else◌, refl}
 use Rattle.std.specs.Option.{option_map_or}
 use Rattle.std.proofs.Common.{subst, sym, ◌∙◌, ap, inl, inr, arith}
 use Rattle.std.proofs.lemmas.Bool.Decides.{eqb_tells}
@@ -7,8 +7,6 @@ use Rattle.host_port.specs.declared.request.Request.{Request}
 use Rattle.host_port.specs.declared.reply.Reply.{Reply}
 use Rattle.world_rules.specs.declared.entry.Entry.{Entry}
 use Rattle.world_rules.specs.declared.entry.Side.{Side}
-use Rattle.world_rules.specs.declared.halt.End.{End}
-use Rattle.world_rules.specs.declared.halt.End.TheVariants as EndIs
 use Rattle.world_rules.specs.declared.life.Birth.{Birth}
 use Rattle.world_rules.specs.declared.life.Birth.TheVariants.{Born, Refused}
 use Rattle.world_rules.specs.Views.{Given, Deed, Taking, Giving, Timing, EndingAll, deed_of, end_by, Want, Goes, Wants, Retries, Ends, want_of, is_starved, is_opened, is_refused, is_pending, clock_in, answer_in}
@@ -17,23 +15,20 @@ use Rattle.world_rules.specs.Calls as CallIs
 use Rattle.world_rules.specs.Answers.{empty_reply, number_reply, written_reply}
 use Rattle.world_rules.specs.Arrivals.{What, arrival_of}
 use Rattle.world_rules.specs.Arrivals as Came
-use Rattle.world_rules.specs.Part.{Part, Scratch}
-use Rattle.world_rules.specs.Mail.{MailItem, Letter, Signal, tags_in, unpicked}
-use Rattle.world_rules.specs.Settled.{settled, Delivered, SentOff, StreamOpened, ListenerBound}
+use Rattle.world_rules.specs.Settled.{settled, StreamOpened, ListenerBound}
 use Rattle.world_rules.specs.Streams.{has_result}
-use Rattle.world_rules.specs.World.{World, Process, Core, core_of, Stage, Unborn, Ready, Out, Waiting, Doomed, Ended, is_away, is_home, is_live, put, with_process, with_moves, fresh_process, live_processes}
-use Rattle.world_rules.specs.Changes.{reached, with_arrival, with_part, readied, answered, replied, pended, waiting, posted}
-use Rattle.world_rules.specs.Ends.{stripped, fated, ended, ended_from_outside, doomed, struck, all_struck, all_end, over_with_first, closed_with_first}
+use Rattle.world_rules.specs.World.{World, Process, core_of, Stage, Unborn, Ready, Out, Waiting, Doomed, Ended, is_away, is_live, with_process, with_moves, fresh_process}
+use Rattle.world_rules.specs.Changes.{reached, with_arrival, with_part, replied}
+use Rattle.world_rules.specs.Ends.{ended_from_outside, closed_with_first}
 use Rattle.world_rules.specs.Moves.{Opened}
-use Rattle.world_rules.specs.Time.{clocked, is_positive, deadline_after, sleep_performed, late_reply, timed_out, all_timed_out, due_processes, at_time, ticked}
-use Rattle.world_rules.specs.Receive.{held, delivery_reply, delivered, wanted_item, without_wanted, delivered_or, unmet, receive_performed, woken_from, woken, arrived, send_answer, sent_off, sent, send_performed}
-use Rattle.world_rules.specs.Links.{with_link, link_answer, link_performed, unlink_performed, die_performed, fallen_with, signals_of, Told, all_told, fallen, ended_by_halt, killed, kill_performed}
-use Rattle.world_rules.specs.Registry.{with_name, put_answer, put_performed, get_performed, remove_performed}
-use Rattle.world_rules.specs.Spawn.{next_number, next_birth, born, spawn_counted, spawned, spawn_performed}
+use Rattle.world_rules.specs.Time.{clocked, late_reply, timed_out, all_timed_out, due_processes, at_time}
+use Rattle.world_rules.specs.Links.{with_link, link_answer, link_performed, unlink_performed, die_performed, killed, kill_performed}
+use Rattle.world_rules.specs.Registry.{with_name, put_answer, put_performed, remove_performed}
+use Rattle.world_rules.specs.Spawn.{next_number, next_birth, born, spawn_counted, spawned}
 use Rattle.world_rules.specs.Outside.{id_address, stream_drawn, opened, opened_and_shut, bound, outside_performed}
 use Rattle.world_rules.specs.Rules.{exists_performed, call_performed, performed, asked, retried, halted, turned, starved_by, streamed_in, recorded, home, opening_shut, given, taken, happened, next}
-use Rattle.world_rules.specs.laws.BirthLaws.{put_here, counted, process_counted, wanted_by}
-use Rattle.world_rules.specs.laws.KeepingLaws.{Keeps, KeepsBut, keeps_self, keeps_then, false_is_true, keeps_home, but_self, but_then, if_keeps, put_keeps_at, put_keeps, giver_keeps, IsHome, home_keeps, still_home, giver_home, arrival_keeps, home_not_away, answered_by, answered_keeps, replied_keeps, then_replied, delivered_keeps, found_keeps, woken_from_keeps, woken_keeps, arrived_keeps, sent_keeps, send_keeps, waiting_keeps, receive_keeps, sleep_keeps, ended_keeps, outside_end_keeps, doomed_keeps, struck_keeps, all_struck_keeps, all_end_keeps, first_keeps, told_keeps, fallen_keeps, halt_keeps, killed_keeps}
+use Rattle.world_rules.specs.laws.BirthLaws.{counted, process_counted, wanted_by}
+use Rattle.world_rules.specs.laws.KeepingLaws.{Keeps, KeepsBut, keeps_self, false_is_true, but_self, but_then, if_keeps, put_keeps, giver_keeps, home_keeps, giver_home, answered_keeps, replied_keeps, then_replied, send_keeps, receive_keeps, sleep_keeps, outside_end_keeps, all_end_keeps, first_keeps, halt_keeps, killed_keeps}
 
 -- CARRY. While a worker has a process, no entry but that process's own Give changes what the worker relies on.
 
@@ -197,7 +192,7 @@ put_other_at : (w : World) (pid : ℕ) (p : Process) (q : ℕ) →
 put_other_at w pid p q (inl same) other = absurd (other same.1)
 put_other_at w pid p q (inr differs) other = ap (λ (b : Bool). if b then p else w.process q) differs.0
 
-put_other : (w : World) (pid : ℕ) (p : Process) (q : ℕ) → q ≢ pid → (with_process w pid p).process q ≡ w.process q
+pub put_other : (w : World) (pid : ℕ) (p : Process) (q : ℕ) → q ≢ pid → (with_process w pid p).process q ≡ w.process q
 put_other w pid p q other = put_other_at w pid p q (eqb_tells q pid) other
 
 starved_other : (starved : Bool) (give : Given) (w : World) (q : ℕ) → q ≢ give.pid
@@ -213,7 +208,7 @@ recorded_other w give q other =
     ∙ starved_other (is_starved give.halt) give (counted w give) q other
     ∙ ap (λ (ps : ℕ → Process). ps q) (process_counted w give)
 
-home_other : (w : World) (give : Given) (q : ℕ) → q ≢ give.pid →
+pub home_other : (w : World) (give : Given) (q : ℕ) → q ≢ give.pid →
     (home (recorded w give) give.pid).process q ≡ w.process q
 home_other w give q other =
     put_other (recorded w give) give.pid (record ((recorded w give).process give.pid) {
@@ -224,7 +219,7 @@ home_other w give q other =
 same_is_kept : (p after : Process) → after ≡ p → Keeps p after
 same_is_kept p after same = let P : Process → Type 0 = λ r. Keeps p r in subst P (sym same) (keeps_self p)
 
-numbers_clocked : (clock : Option ℕ) (w : World) →
+pub numbers_clocked : (clock : Option ℕ) (w : World) →
     (option_map_or (λ now. at_time now w) clock w).numbers_drawn ≡ w.numbers_drawn
 numbers_clocked None w = refl
 numbers_clocked (Some now) w = refl
@@ -239,7 +234,7 @@ numbers_starved : (starved : Bool) (give : Given) (w : World)
 numbers_starved true give w = refl
 numbers_starved false give w = refl
 
-numbers_recorded : (w : World) (give : Given) → (recorded w give).numbers_drawn ≡ w.numbers_drawn
+pub numbers_recorded : (w : World) (give : Given) → (recorded w give).numbers_drawn ≡ w.numbers_drawn
 numbers_recorded w give =
     numbers_starved (is_starved give.halt) give (counted w give)
     ∙ numbers_streamed (wanted_by w give) give (clocked give.side w) ∙ numbers_clocked (clock_in give.side) w

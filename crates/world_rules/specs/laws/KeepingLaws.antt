@@ -1,38 +1,25 @@
-use Rattle.std.specs.Prelude.{◌≡◌, ◌≢◌, ◌⊎◌, ℕ, ◌+◌, List, [], ◌∷◌, ◌++◌, length, Option, Some, None, Bool, true, false, not, nat_eq, if◌then◌else◌, refl}
-use Rattle.std.specs.Option.{option_map_or}
-use Rattle.std.proofs.Common.{subst, sym, ◌∙◌, ap, inl, inr, arith}
+use Rattle.std.specs.Prelude.{◌≡◌, ◌≢◌, ◌⊎◌, ℕ, List, [], ◌∷◌, ◌++◌, Option, Some, None, Bool, true, false, nat_eq, if◌then◌else◌, refl}
+use Rattle.std.proofs.Common.{subst, sym, ◌∙◌, ap, inl, inr}
 use Rattle.std.proofs.lemmas.Bool.Decides.{eqb_tells}
-use Rattle.host_port.specs.declared.start.Start.{Start}
 use Rattle.host_port.specs.declared.request.Request.{Request}
 use Rattle.host_port.specs.declared.reply.Reply.{Reply}
-use Rattle.world_rules.specs.declared.entry.Entry.{Entry}
-use Rattle.world_rules.specs.declared.entry.Side.{Side}
 use Rattle.world_rules.specs.declared.halt.End.{End}
 use Rattle.world_rules.specs.declared.halt.End.TheVariants as EndIs
-use Rattle.world_rules.specs.declared.life.Birth.{Birth}
-use Rattle.world_rules.specs.declared.life.Birth.TheVariants.{Born, Refused}
-use Rattle.world_rules.specs.Views.{Given, Deed, Taking, Giving, Timing, EndingAll, deed_of, end_by, Want, Goes, Wants, Retries, Ends, want_of, is_starved, is_opened, is_refused, is_pending, clock_in, answer_in}
 use Rattle.world_rules.specs.Calls.{HostCall, call_of, arg}
 use Rattle.world_rules.specs.Calls as CallIs
-use Rattle.world_rules.specs.Answers.{empty_reply, number_reply, written_reply}
+use Rattle.world_rules.specs.Answers.{empty_reply, number_reply}
 use Rattle.world_rules.specs.Arrivals.{What, arrival_of}
 use Rattle.world_rules.specs.Arrivals as Came
-use Rattle.world_rules.specs.Part.{Part, Scratch}
+use Rattle.world_rules.specs.Part.{Scratch}
 use Rattle.world_rules.specs.Mail.{MailItem, Letter, Signal, tags_in, unpicked}
-use Rattle.world_rules.specs.Settled.{settled, Delivered, SentOff, StreamOpened, ListenerBound}
-use Rattle.world_rules.specs.Streams.{has_result}
-use Rattle.world_rules.specs.World.{World, Process, Core, core_of, Stage, Unborn, Ready, Out, Waiting, Doomed, Ended, is_away, is_home, is_live, put, with_process, with_moves, fresh_process, live_processes}
-use Rattle.world_rules.specs.Changes.{reached, with_arrival, with_part, readied, answered, replied, pended, waiting, posted}
+use Rattle.world_rules.specs.Settled.{settled, Delivered, SentOff}
+use Rattle.world_rules.specs.World.{World, Process, core_of, Stage, Unborn, Ready, Out, Waiting, Doomed, Ended, is_away, is_home, with_process, live_processes}
+use Rattle.world_rules.specs.Changes.{reached, with_arrival, readied, answered, replied, waiting, posted}
 use Rattle.world_rules.specs.Ends.{stripped, fated, ended, ended_from_outside, doomed, struck, all_struck, all_end, over_with_first, closed_with_first}
-use Rattle.world_rules.specs.Moves.{Opened}
-use Rattle.world_rules.specs.Time.{clocked, is_positive, deadline_after, sleep_performed, late_reply, timed_out, all_timed_out, due_processes, at_time, ticked}
+use Rattle.world_rules.specs.Time.{is_positive, deadline_after, sleep_performed}
 use Rattle.world_rules.specs.Receive.{held, delivery_reply, delivered, wanted_item, without_wanted, delivered_or, unmet, receive_performed, woken_from, woken, arrived, send_answer, sent_off, sent, send_performed}
-use Rattle.world_rules.specs.Links.{with_link, link_answer, link_performed, unlink_performed, die_performed, fallen_with, signals_of, Told, all_told, fallen, ended_by_halt, killed, kill_performed}
-use Rattle.world_rules.specs.Registry.{with_name, put_answer, put_performed, get_performed, remove_performed}
-use Rattle.world_rules.specs.Spawn.{next_number, next_birth, born, spawn_counted, spawned, spawn_performed}
-use Rattle.world_rules.specs.Outside.{id_address, stream_drawn, opened, opened_and_shut, bound, outside_performed}
-use Rattle.world_rules.specs.Rules.{exists_performed, call_performed, performed, asked, retried, halted, turned, starved_by, streamed_in, recorded, home, opening_shut, given, taken, happened, next}
-use Rattle.world_rules.specs.laws.BirthLaws.{put_here, counted, process_counted, wanted_by}
+use Rattle.world_rules.specs.Links.{fallen_with, signals_of, Told, all_told, fallen, ended_by_halt, killed}
+use Rattle.world_rules.specs.laws.BirthLaws.{put_here}
 
 -- KEEPING. The changes of which the rules are made leave what a worker relies on, of each process but the one that is
 -- given back.

@@ -1,9 +1,9 @@
-use Rattle.std.specs.Prelude.{◌≡◌, ℕ, ◌+◌, List, [], ◌∷◌, ◌++◌, length, map, slice_get, Option, Some, None, refl}
+use Rattle.std.specs.Prelude.{◌≡◌, ℕ, List, [], ◌∷◌, ◌++◌, map, slice_get, Option, Some, refl}
 use Rattle.std.proofs.Common.{subst, sym, ◌∙◌, ap}
 use Rattle.host_port.specs.declared.start.Start.{Start}
 use Rattle.world_rules.specs.declared.entry.Entry.{Entry}
 use Rattle.world_rules.specs.declared.life.Birth.{Birth}
-use Rattle.world_rules.specs.declared.life.Birth.TheVariants.{Born, Refused}
+use Rattle.world_rules.specs.declared.life.Birth.TheVariants.{Born}
 use Rattle.world_rules.specs.declared.life.Ended.{Ended as EndMemory}
 use Rattle.world_rules.specs.Book.{Book}
 use Rattle.world_rules.specs.Views.{deed_of}

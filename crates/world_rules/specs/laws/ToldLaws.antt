@@ -1,5 +1,5 @@
-use Rattle.std.specs.Prelude.{◌≡◌, ℕ, ◌+◌, List, [], ◌∷◌, ◌++◌, length, slice_get, Option, Some, None, refl}
-use Rattle.std.proofs.Common.{subst, sym, ◌∙◌, ap, append-nil}
+use Rattle.std.specs.Prelude.{◌≡◌, List, [], ◌∷◌, ◌++◌, Option, Some, None, refl}
+use Rattle.std.proofs.Common.{subst, sym, ◌∙◌, ap}
 use Rattle.world_rules.specs.declared.entry.Entry.{Entry}
 use Rattle.world_rules.specs.declared.life.Birth.{Birth}
 use Rattle.world_rules.specs.declared.life.Birth.TheVariants.{Born, Refused}
@@ -8,8 +8,7 @@ use Rattle.world_rules.specs.World.{World, first_world}
 use Rattle.world_rules.specs.Rules.{next}
 use Rattle.world_rules.specs.Births.{Terms}
 use Rattle.world_rules.specs.Allowed.{Allowed}
-use Rattle.world_rules.specs.Told.{all_after, AllAllowed, told, EntriesAllowed, IsTold}
-use Rattle.world_rules.specs.Legal.{Legal}
+use Rattle.world_rules.specs.Told.{all_after, AllAllowed, told, EntriesAllowed}
 use Rattle.world_rules.specs.laws.BirthLaws.{next_extends, told_extends}
 use Rattle.world_rules.specs.laws.AllowedLaws.{allowed_extends, allowed_untested}
 
