@@ -1,6 +1,4 @@
-pub mod Frames
-pub mod Lines
-pub mod Counts
+pub mod Octets
 pub mod Boxed
 pub mod EachKind
 pub mod SectionsSeen

@@ -1,4 +1,3 @@
-pub mod Line
 pub mod Limits
 pub mod Kinds
 pub mod Order

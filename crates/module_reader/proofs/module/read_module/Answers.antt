@@ -5,7 +5,7 @@ use Rattle.std.proofs.lemmas.Result.{err_from_is_err_and}
 use Rattle.wasm_form.specs.Modules.{Spells}
 use Rattle.wasm_form.specs.declared.parts.Parts.{Parts}
 use Rattle.body_reader.proofs.Pieces.{refused_with}
-use Rattle.module_reader.proofs.Frames.{octets}
+use Rattle.module_reader.proofs.Octets.{octets}
 use Rattle.module_reader.proofs.SectionsSeen.{whole_module, unequal, in_module}
 use Rattle.module_reader.proofs.module.read_module.Goals as goal
 
