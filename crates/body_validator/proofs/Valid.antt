@@ -19,7 +19,7 @@ use Rattle.wasm_form.specs.Sections.{SpellsBody, SpellsBodies}
 use Rattle.wasm_form.specs.Modules.{Section, IsSpelled, HasPart}
 use Rattle.wasm_form.specs.Context.{context_of}
 use Rattle.wasm_form.specs.Typing.{Types}
-use Rattle.wasm_form.specs.Form.{small_parts}
+use Rattle.wasm_form.specs.Start.{start_parts}
 use Rattle.wasm_form.specs.Validity.{HasSingleResults, IsValidFunction}
 use Rattle.body_validator.specs.Locals.{count_of}
 
@@ -122,10 +122,10 @@ no_type m place index h e v =
 pub no_body : (m : Parts) (place : ℕ) → slice_get m.bodies place ≡ None → ¬ IsValidFunction m place
 no_body m place e v = let f : None ≡ Some v.body = sym e ∙ v.has_body in absurd (cc f)
 
--- the type of a small module's function gives nothing
-pub small_single : (m : Parts) (code : List Instr) → m ≡ small_parts code → HasSingleResults m
-small_single m code e k d within =
-    let types : List FuncType = (small_parts code).types in
+-- the type of the one function of `start_parts` gives nothing
+pub start_single : (m : Parts) (code : List Instr) → m ≡ start_parts code → HasSingleResults m
+start_single m code e k d within =
+    let types : List FuncType = (start_parts code).types in
     let h : k < length types = subst (λ (p : Parts). k < length p.types) e within in
     let first : k ≡ 0 = omega arith in
     subst (λ (p : Parts). length (get_or p.types k d).results ≤ 1) (sym e)

@@ -7,7 +7,7 @@ use memory_refusal::NoMemory;
 use std::alloc::Global;
 use std::test::Fail;
 use wasm_form::{
-    Expr, Imm, Indexes, Instr, Instrs, LocalRun, Matches, Module, ValType, small_module,
+    Expr, Imm, Indexes, Instr, Instrs, LocalRun, Matches, Module, ValType, start_module,
 };
 
 // Br 0, i32.add, drop.
@@ -399,7 +399,7 @@ fn nothing(alloc: Global) -> Result<Module, NoMemory>
         code: 0x0B,
         imm: Imm::None,
     })?;
-    let module = small_module(alloc, code)?;
+    let module = start_module(alloc, code)?;
     Ok(module)
 }
 

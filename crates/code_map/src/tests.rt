@@ -10,7 +10,7 @@ use memory_refusal::NoMemory;
 use std::alloc::Global;
 use std::test::Fail;
 use wasm_form::{
-    Expr, Imm, Indexes, Instr, Instrs, Module, PartsFault, ValType, match_blocks, small_module,
+    Expr, Imm, Indexes, Instr, Instrs, Module, PartsFault, ValType, match_blocks, start_module,
 };
 
 // Block, loop, local.get 0, if, br 2, else, br 1, end, local.get 0, br_table 1 0 2, and three ends.
@@ -204,7 +204,7 @@ fn nothing(alloc: Global) -> Result<Module, NoMemory>
         code: 0x0B,
         imm: Imm::None,
     })?;
-    let module = small_module(alloc, code)?;
+    let module = start_module(alloc, code)?;
     Ok(module)
 }
 

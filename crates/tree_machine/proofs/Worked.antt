@@ -8,7 +8,7 @@ use Rattle.wasm_form.specs.declared.instr.Imm.TheVariants as imm
 use Rattle.wasm_form.specs.declared.value_type.ValType.TheVariants.{I32}
 use Rattle.wasm_form.specs.declared.parts.Parts.{Parts}
 use Rattle.wasm_form.specs.Trees.{end_instr, block_instr, loop_instr, if_instr, else_instr}
-use Rattle.wasm_form.specs.Form.{small_parts}
+use Rattle.wasm_form.specs.Start.{start_parts}
 use Rattle.tree_machine.specs.Trees.{read, tree_of}
 use Rattle.tree_machine.specs.Instructions.{plain_of}
 use Rattle.tree_machine.specs.Functions.{own_function, callee_of}
@@ -40,7 +40,7 @@ abbrev pub index : ℕ → ℕ → Instr
 index code n = record { code = code; imm = imm.Index n }
 
 abbrev pub body : List Instr → Parts
-body list = small_parts (list ++ end_instr ∷ [])
+body list = start_parts (list ++ end_instr ∷ [])
 
 -- i32.const 42, drop: after two instructions the run is over
 const_drop : state_of (at (body (i32 42 ∷ bare 0x1A ∷ [])) (start 2) [] 2) ≡ Some Finished

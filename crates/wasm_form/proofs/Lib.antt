@@ -1,4 +1,3 @@
-pub mod Spellings
 pub mod Fronts
 pub mod OneType
 pub mod OneCode
@@ -6,7 +5,7 @@ pub mod OneModule
 pub mod Walks
 pub mod Taken
 pub mod Octets
-pub mod SmallSpelled
+pub mod StartSpelled
 pub mod LeastNumbers
 pub mod LeastParts
 pub mod LeastModule

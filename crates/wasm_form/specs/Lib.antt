@@ -1,6 +1,3 @@
-pub mod Small
-pub mod Operands
-pub mod Form
 pub mod Values
 pub mod Types
 pub mod Instructions
@@ -17,3 +14,4 @@ pub mod Least
 pub mod Ranges
 pub mod Spellable
 pub mod Lengths
+pub mod Start

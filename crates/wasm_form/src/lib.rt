@@ -5,8 +5,7 @@
 //! law of this crate is that the same bytes spell one module at most.
 //!
 //! A [`Module`] has parts that some bytes spell; [`Module::from_parts`] makes one exactly where some
-//! do. `Small` is the one form that is run so far: a
-//! function that is a straight line of `nop`, `i32.const`, `i32.add` and `drop`.
+//! do; [`start_module`] makes the one whose only function has the given code.
 #![tactic(auto)]
 
 mod body;
@@ -24,8 +23,8 @@ mod module;
 mod name;
 mod parts;
 mod sizes;
-mod small;
 mod sort;
+mod start;
 mod types;
 mod value_type;
 mod vector;
@@ -35,7 +34,7 @@ pub use expr::{Expr, Indexes, Instrs, Match, Matches, Octets};
 pub use fault::PartsFault;
 pub use immediates::Immediates;
 pub use instr::{Imm, Instr};
-pub use laws::{one_expression, one_module, one_small_list, small_modules};
+pub use laws::{one_expression, one_module};
 pub use least::{least_contents, least_lengths};
 pub use least_length::{LeastLength, items_length, vector_length};
 pub use matching::match_blocks;
@@ -46,8 +45,8 @@ pub use parts::{
     Parts, Segment, Segments,
 };
 pub use sizes::are_few;
-pub use small::small_module;
 pub use sort::Sort;
+pub use start::start_module;
 pub use types::{Bounds, FuncType, FuncTypes, GlobalType, Limits, ValTypes};
 pub use value_type::ValType;
 pub use vector::Vector;

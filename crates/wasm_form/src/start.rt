@@ -1,5 +1,5 @@
 ghost use Rattle.std.specs.Prelude.{◌≡◌, IfOk};
-ghost use Rattle.wasm_form.specs.Form.{small_parts};
+ghost use Rattle.wasm_form.specs.Start.{start_parts};
 ghost use Rattle.wasm_form.specs.Modules.{IsSpelled};
 
 use crate::{
@@ -10,9 +10,9 @@ use memory_refusal::NoMemory;
 use std::alloc::Global;
 
 /// The module whose one function, exported as `_start`, has this code with its end.
-pub fn small_module(alloc: Global, code: Instrs) -> Result<Module, NoMemory>
-    requires spelled { IsSpelled (small_parts code) }
-    ensures { IfOk result (λ m. m ≡ small_parts code) }
+pub fn start_module(alloc: Global, code: Instrs) -> Result<Module, NoMemory>
+    requires spelled { IsSpelled (start_parts code) }
+    ensures { IfOk result (λ m. m ≡ start_parts code) }
 {
     let mut types = FuncTypes::new(alloc);
     types.push(FuncType {
