@@ -68,8 +68,34 @@ low_by n true false set false a b c d h =
     let one : 0x42 < n = grind (arith, nat_tests) in
     low_of n (omega arith) (λ w. absurd (omega (arith, w))) (λ w. absurd (omega (arith, w))) (λ w. absurd (omega (arith, w))) (λ w. absurd (omega (arith, w))) (λ w. absurd (omega (arith, w)))
 
+-- a code below those of control
+low_first : (n : ℕ) → n < 0x02 → IsLow n
+low_first n below = (
+  λ w. absurd (omega (arith, below, w)),
+  λ w. absurd (omega (arith, below, w)),
+  λ w. absurd (omega (arith, below, w)),
+  λ w. absurd (omega (arith, below, w)),
+  λ w. absurd (omega (arith, below, w)),
+  λ w. absurd (omega (arith, below, w)),
+  λ w. absurd (omega (arith, below, w)),
+  λ w. absurd (omega (arith, below, w)),
+  λ w. absurd (omega (arith, below, w)),
+  λ w. absurd (omega (arith, below, w)),
+  λ w. absurd (omega (arith, below, w)),
+  λ w. absurd (omega (arith, below, w)),
+  λ w. absurd (omega (arith, below, w)),
+  λ w. absurd (omega (arith, below, w)),
+  λ w. absurd (omega (arith, below, w)),
+  λ w. absurd (omega (arith, below, w)),
+)
+
+low_where : (n : ℕ) (first : Bool) → nat_lt n 0x02 ≡ first →
+    cond first true (nat_lt 0x11 n && cond (nat_lt n 0x24) (cond (nat_lt 0x20 n) (nat_lt n 0x23) (nat_lt n 0x20)) (cond (nat_lt n 0x3F) true (nat_lt 0x42 n))) ≡ true → IsLow n
+low_where n true e h = let below : n < 0x02 = grind (arith, nat_tests) in low_first n below
+low_where n false e h = low_by n (nat_lt 0x11 n) (nat_lt n 0x24) (nat_lt 0x20 n) (nat_lt n 0x3F) refl refl refl refl h
+
 pub low_is : (n : ℕ) → is_low n ≡ true → IsLow n
-low_is n h = low_by n (nat_lt 0x11 n) (nat_lt n 0x24) (nat_lt 0x20 n) (nat_lt n 0x3F) refl refl refl refl h
+low_is n h = low_where n (nat_lt n 0x02) refl h
 
 -- where straight code is not stuck, it has its effect
 went : (p : Option Plain) (flat : Flat) → go_straight p flat ≢ Stuck → go_straight p flat ≡ executes (straight_of p flat)

@@ -1,5 +1,5 @@
 -- What comes after an instruction.
-use Rattle.std.specs.Prelude.{◌≢◌, ◌<◌, ℕ, List, Bool, Result, Ok, Err}
+use Rattle.std.specs.Prelude.{◌≡◌, ◌≢◌, ◌<◌, ℕ, List, Bool, Result, Ok, Err}
 use Rattle.linear_memory.specs.Contents.{Contents}
 use Rattle.wasm_form.specs.declared.instr.Instr.{Instr}
 use Rattle.wasm_form.specs.declared.parts.Parts.{Parts}
@@ -12,10 +12,10 @@ use Rattle.flat_stepper.specs.declared.within.Within.{Within}
 use Rattle.flat_stepper.specs.declared.within.Spot.{Spot}
 use Rattle.flat_stepper.specs.Standing.{Stands, StepsAll, PassesTo, HasRoom}
 
--- what an instruction that costs fuel came to
-abbrev pub next_of : Result Spot Pause → Next
-next_of (Ok to) = next.Goes to
-next_of (Err reason) = next.Pauses reason
+-- what an instruction at this spot that costs fuel came to
+abbrev pub next_of : (at : Spot) → Result Spot Pause → Next
+next_of at (Ok to) = next.Goes to
+next_of at (Err reason) = next.Pauses at reason
 
 -- it costs fuel: it is no end and no else
 abbrev pub IsCounted : Instr → Type 0
@@ -28,7 +28,7 @@ CountsAll within i old memory_old globals_old at new memory_new globals_new outc
     IsCounted i × StepsAll within i old memory_old globals_old at new memory_new globals_new outcome
 
 -- What comes after the instruction: it costs fuel and was executed, or it is passed and lies behind, or it costs fuel
--- and isn't executed.
+-- and isn't executed, and the body stands where it stood.
 abbrev pub NextOf : (within : Within) → Instr → (old : List ℕ) → (memory_old : Contents) → (globals_old : List ℕ)
     → (at : Spot) → (new : List ℕ) → (memory_new : Contents) → (globals_new : List ℕ) → Next → Type 0
 NextOf within i old memory_old globals_old at new memory_new globals_new (next.Goes to) =
@@ -38,11 +38,11 @@ NextOf within i old memory_old globals_old at new memory_new globals_new (next.P
     × ((m : Parts) (map : CodeMap) (flat : Flat) (has : Bool)
     → Stands m map flat has within i old memory_old globals_old at
     → PassesTo m map flat has new memory_new globals_new to)
-NextOf within i old memory_old globals_old at new memory_new globals_new (next.Pauses reason) =
-    CountsAll within i old memory_old globals_old at new memory_new globals_new (Err reason)
+NextOf within i old memory_old globals_old at new memory_new globals_new (next.Pauses here reason) =
+    (here ≡ at) × CountsAll within i old memory_old globals_old at new memory_new globals_new (Err reason)
 
 -- where it goes on, there is room in an array of so many places
 abbrev pub GoesWithin : Next → (places : ℕ) → Type 0
 GoesWithin (next.Goes to) places = HasRoom to places
 GoesWithin (next.Passes to) places = HasRoom to places
-GoesWithin (next.Pauses reason) places = Unit {0}
+GoesWithin (next.Pauses here reason) places = Unit {0}

@@ -1,5 +1,5 @@
 -- What the code answers beside what the flat machine does.
-use Rattle.std.specs.Prelude.{◌≡◌, ℕ, ◌+◌, ◌-◌, ◌*◌, List, [], ◌∷◌, length, Bool, false, Option, Some, None}
+use Rattle.std.specs.Prelude.{◌≡◌, ℕ, ◌+◌, ◌-◌, ◌*◌, List, [], ◌∷◌, length, Bool, true, false, Option, Some, None}
 use Rattle.wasm_form.specs.declared.parts.Parts.{Parts}
 use Rattle.code_map.specs.declared.map.CodeMap.{CodeMap}
 use Rattle.code_map.specs.declared.callee.Callee.{Callee}
@@ -12,6 +12,11 @@ use Rattle.flat_machine.specs.Moves.{Move, Executes, Passes, Asks, Traps, Exceed
 use Rattle.flat_machine.specs.Runs.{Runs}
 use Rattle.flat_machine.specs.Halts.{HaltsSo}
 use Rattle.flat_stepper.specs.declared.state.State.{State}
+
+-- why the machine halts, if it does
+abbrev pub reason : (halts : Bool) → Halt → Option Halt
+reason true halt = Some halt
+reason false halt = None
 
 -- a call: it was executed, or the machine halts so
 abbrev pub Calls : Move → Option Halt → (from to : Flat) → Type 0

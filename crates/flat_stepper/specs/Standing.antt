@@ -122,8 +122,9 @@ IsLow code =
     × (code ≢ 0x0E) × (code ≢ 0x0F) × (code ≢ 0x10) × (code ≢ 0x11) × (code ≢ 0x20) × (code ≢ 0x23) × (code ≢ 0x3F)
     × (code ≢ 0x41) × (code ≢ 0x42)
 
--- a code above those of control whose instruction is such a one
+-- a code below or above those of control whose instruction is such a one
 abbrev pub is_low : (code : ℕ) → Bool
 is_low code =
-    nat_lt 0x11 code && cond (nat_lt code 0x24) (cond (nat_lt 0x20 code) (nat_lt code 0x23) (nat_lt code 0x20))
-    (cond (nat_lt code 0x3F) true (nat_lt 0x42 code))
+    cond (nat_lt code 0x02) true
+    (nat_lt 0x11 code && cond (nat_lt code 0x24) (cond (nat_lt 0x20 code) (nat_lt code 0x23) (nat_lt code 0x20))
+    (cond (nat_lt code 0x3F) true (nat_lt 0x42 code)))

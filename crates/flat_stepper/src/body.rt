@@ -1,7 +1,8 @@
-ghost use Rattle.std.specs.Prelude.{◌≡◌, ◌<◌, ◌≤◌, ◌+◌, ℕ, Bool, true, false, length};
+ghost use Rattle.std.specs.Prelude.{◌≡◌, ◌<◌, ◌≤◌, ◌+◌, ℕ, Bool, true, false, length, slice_get, Some};
 ghost use Rattle.tree_machine.specs.Limits.{most_values};
 ghost use Rattle.flat_machine.specs.Flat.{Flat};
 ghost use Rattle.flat_machine.specs.Shown.{moved};
+ghost use Rattle.wasm_form.specs.declared.instr.Instr.{Instr};
 ghost use Rattle.flat_machine.specs.Runs.{Runs};
 ghost use Rattle.flat_stepper.specs.Pauses.{PausesSo};
 ghost use Rattle.flat_stepper.specs.Begun.{IsBegun};
@@ -48,7 +49,7 @@ pub fn run_body(
     };
     let mut left = budget;
     while let Some(instr) = within.code.get(spot.pc) {
-        if is_spent(left, instr) {
+        if is_spent(left, within.code, spot.pc) {
             return turn(Pause::Slice, budget, spot);
         }
         match step(&within, instr, values, memory, globals, spot) {
@@ -57,19 +58,34 @@ pub fn run_body(
                 left -= 1;
             }
             Next::Passes(to) => spot = to,
-            Next::Pauses(pause) => return turn(pause, budget - left, spot),
+            Next::Pauses(here, pause) => return turn(pause, budget - left, here),
         }
     }
     turn(Pause::Over, budget - left, spot)
 }
 
-/// Whether nothing is left, and the instruction costs fuel: it is no end and no else.
+/// Whether nothing is left, and the instruction at this place costs fuel.
 #[inline(always)]
-fn is_spent(left: u64, instr: &Instr) -> bool
-    ensures spent { result ≡ true → (left ≡ 0) × IsCounted instr.now }
-    ensures more { result ≡ false → IsCounted instr.now → 1 ≤ left }
+fn is_spent(left: u64, code: &[Instr], pc: usize) -> bool
+    ensures spent { result ≡ true → left ≡ 0 }
+    ensures counted { result ≡ true → (i : Instr) → slice_get code.now pc ≡ Some i → IsCounted i }
+    ensures more { result ≡ false → (i : Instr) → slice_get code.now pc ≡ Some i → IsCounted i → 1 ≤ left }
 {
-    left == 0 && instr.code != 0x0B && instr.code != 0x05
+    left == 0 && is_counted(code, pc)
+}
+
+/// The instruction at this place costs fuel: it is no end and no else. This is asked where nothing is left, and compiled
+/// apart.
+#[cold]
+#[inline(never)]
+fn is_counted(code: &[Instr], pc: usize) -> bool
+    ensures yes { result ≡ true → (i : Instr) → slice_get code.now pc ≡ Some i → IsCounted i }
+    ensures no { result ≡ false → (i : Instr) → slice_get code.now pc ≡ Some i → IsCounted i → ⊥ }
+{
+    match code.get(pc) {
+        Some(instr) => instr.code != 0x0B && instr.code != 0x05,
+        None => false,
+    }
 }
 
 /// The turn that pauses here, after so many instructions.

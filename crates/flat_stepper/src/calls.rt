@@ -1,4 +1,5 @@
-//! Calls of functions and of the host.
+//! Calls of functions and of the host. Why the machine halts is written where it does, and not given back, since an ask
+//! of the host is long, and nearly all calls go on.
 ghost use Rattle.std.specs.Prelude.{◌≡◌, ◌≢◌, ℕ, ◌+◌, ◌≤◌, Bool, length, slice_get};
 ghost use Rattle.code_map.specs.declared.callee.Callee.TheVariants as callee;
 ghost use Rattle.code_map.specs.declared.map.CodeMap.{CodeMap};
@@ -11,7 +12,7 @@ ghost use Rattle.flat_machine.specs.Moves.{Stuck};
 ghost use Rattle.flat_machine.specs.Moves as moves;
 ghost use Rattle.flat_stepper.specs.Places.{place_of};
 ghost use Rattle.flat_stepper.specs.States.{flat_of, IsSound};
-ghost use Rattle.flat_stepper.specs.Outcomes.{Calls};
+ghost use Rattle.flat_stepper.specs.Outcomes.{Calls, reason};
 
 use crate::Place;
 use crate::stacks::{MOST_FRAMES, MOST_VALUES, arguments, lengthen, push_zeros};
@@ -37,13 +38,14 @@ fn behind(parts: &Parts, at: Place) -> Place
     }
 }
 
-/// call: of the function with this index.
+/// call: of the function with this index. Tells whether the machine halts there, and then why.
 pub(crate) fn call_function(
     state: &mut State,
     parts: &Parts,
     map: &CodeMap,
     function: u32,
-) -> Option<Halt>
+    halt: &mut Halt,
+) -> bool
     requires sound { IsSound state.old }
     requires at { (i : Instr) × IsInstrAt parts.now (place_of state.old.place) i }
     requires applies { moves.call_function parts.now map.now (Some function) (flat_of state.old) ≢ Stuck }
@@ -51,21 +53,23 @@ pub(crate) fn call_function(
     ensures longer { length state.old.values.items ≤ length state.new.values.items }
     ensures entered { state.new.entered ≡ state.old.entered }
     ensures functions { state.new.invocations.items ≡ state.old.invocations.items }
-    ensures calls { Calls (moves.call_function parts.now map.now (Some function) (flat_of state.old)) result
-        (flat_of state.old) (flat_of state.new) }
+    ensures calls { Calls (moves.call_function parts.now map.now (Some function) (flat_of state.old))
+        (reason result halt.new) (flat_of state.old) (flat_of state.new) }
 {
     let callee = map.callees.as_slice()[function as usize];
     let sp = state.sp;
-    call(state, parts, map, callee, sp)
+    call(state, parts, map, callee, sp, halt)
 }
 
-/// call_indirect: of the element of the table whose place lies on top, which has to have this type.
+/// call_indirect: of the element of the table whose place lies on top, which has to have this type. Tells whether the
+/// machine halts there, and then why.
 pub(crate) fn call_indirect(
     state: &mut State,
     parts: &Parts,
     map: &CodeMap,
     ty: u32,
-) -> Option<Halt>
+    halt: &mut Halt,
+) -> bool
     requires sound { IsSound state.old }
     requires at { (i : Instr) × IsInstrAt parts.now (place_of state.old.place) i }
     requires applies { moves.call_indirect parts.now map.now (Some ty) (flat_of state.old) ≢ Stuck }
@@ -73,20 +77,27 @@ pub(crate) fn call_indirect(
     ensures longer { length state.old.values.items ≤ length state.new.values.items }
     ensures entered { state.new.entered ≡ state.old.entered }
     ensures functions { state.new.invocations.items ≡ state.old.invocations.items }
-    ensures calls { Calls (moves.call_indirect parts.now map.now (Some ty) (flat_of state.old)) result
-        (flat_of state.old) (flat_of state.new) }
+    ensures calls { Calls (moves.call_indirect parts.now map.now (Some ty) (flat_of state.old))
+        (reason result halt.new) (flat_of state.old) (flat_of state.new) }
 {
     let sp = state.sp - 1;
     let element = state.values[sp];
     match element_at(state.table.as_slice(), element) {
-        None => Some(Halt::Trap(Trap::TableBounds)),
-        Some(None) => Some(Halt::Trap(Trap::NoElement)),
+        None => {
+            *halt = Halt::Trap(Trap::TableBounds);
+            true
+        }
+        Some(None) => {
+            *halt = Halt::Trap(Trap::NoElement);
+            true
+        }
         Some(Some(function)) => {
             let callee = map.callees.as_slice()[function as usize];
             if class_of(callee) == map.classes.as_slice()[ty as usize] {
-                call(state, parts, map, callee, sp)
+                call(state, parts, map, callee, sp, halt)
             } else {
-                Some(Halt::Trap(Trap::WrongType))
+                *halt = Halt::Trap(Trap::WrongType);
+                true
             }
         }
     }
@@ -110,7 +121,14 @@ fn class_of(callee: Callee) -> u32
 }
 
 /// A call with the first `sp` values.
-fn call(state: &mut State, parts: &Parts, map: &CodeMap, callee: Callee, sp: usize) -> Option<Halt>
+fn call(
+    state: &mut State,
+    parts: &Parts,
+    map: &CodeMap,
+    callee: Callee,
+    sp: usize,
+    halt: &mut Halt,
+) -> bool
     requires sound { IsSound state.old }
     requires at { (i : Instr) × IsInstrAt parts.now (place_of state.old.place) i }
     requires within { sp ≤ state.old.sp }
@@ -121,7 +139,7 @@ fn call(state: &mut State, parts: &Parts, map: &CodeMap, callee: Callee, sp: usi
     ensures entered { state.new.entered ≡ state.old.entered }
     ensures functions { state.new.invocations.items ≡ state.old.invocations.items }
     ensures calls { Calls (moves.call parts.now map.now (Some callee) (stack_of state.old.values.items sp)
-        (flat_of state.old)) result (flat_of state.old) (flat_of state.new) }
+        (flat_of state.old)) (reason result halt.new) (flat_of state.old) (flat_of state.new) }
 {
     match callee {
         Callee::Own {
@@ -129,13 +147,13 @@ fn call(state: &mut State, parts: &Parts, map: &CodeMap, callee: Callee, sp: usi
             params,
             locals,
             ..
-        } => call_own(state, parts, map, body, params, locals, sp),
+        } => call_own(state, parts, map, body, params, locals, sp, halt),
         Callee::Host {
             call,
             params,
             gives,
             ..
-        } => ask_host(state, parts, call, params, gives, sp),
+        } => ask_host(state, parts, call, params, gives, sp, halt),
     }
 }
 
@@ -149,7 +167,8 @@ fn call_own(
     params: u32,
     locals: u32,
     sp: usize,
-) -> Option<Halt>
+    halt: &mut Halt,
+) -> bool
     requires sound { IsSound state.old }
     requires at { (i : Instr) × IsInstrAt parts.now (place_of state.old.place) i }
     requires within { sp ≤ state.old.sp }
@@ -162,16 +181,18 @@ fn call_own(
     ensures functions { state.new.invocations.items ≡ state.old.invocations.items }
     ensures calls { (gives : Bool) (class : ℕ) → Calls (moves.call parts.now map.now
         (Some (callee.Own body params locals gives class)) (stack_of state.old.values.items sp) (flat_of state.old))
-        result (flat_of state.old) (flat_of state.new) }
+        (reason result halt.new) (flat_of state.old) (flat_of state.new) }
 {
     if state.callers.len() + 2 > MOST_FRAMES {
-        return Some(Halt::Spent(Spent::Frames));
+        *halt = Halt::Spent(Spent::Frames);
+        return true;
     }
     let at = state.place;
     let count = locals as usize;
     let need = sp + count + at.opens;
     if need > MOST_VALUES {
-        return Some(Halt::Spent(Spent::Values));
+        *halt = Halt::Spent(Spent::Values);
+        return true;
     }
     let caller = behind(parts, at);
     match state.callers.push(caller) {
@@ -187,7 +208,7 @@ fn call_own(
         base: sp - params as usize,
         opens: at.opens,
     };
-    None
+    false
 }
 
 /// A call of the host: it is asked where its result has room, and takes the arguments.
@@ -198,7 +219,8 @@ fn ask_host(
     params: u32,
     gives: bool,
     sp: usize,
-) -> Option<Halt>
+    halt: &mut Halt,
+) -> bool
     requires sound { IsSound state.old }
     requires at { (i : Instr) × IsInstrAt parts.now (place_of state.old.place) i }
     requires within { sp ≤ state.old.sp }
@@ -210,16 +232,18 @@ fn ask_host(
     ensures functions { state.new.invocations.items ≡ state.old.invocations.items }
     ensures calls { (map : CodeMap) (class : ℕ) → Calls (moves.call parts.now map
         (Some (callee.Host number params gives class)) (stack_of state.old.values.items sp) (flat_of state.old))
-        result (flat_of state.old) (flat_of state.new) }
+        (reason result halt.new) (flat_of state.old) (flat_of state.new) }
 {
     let at = state.place;
     let count = params as usize;
     let below = sp - count;
     if below + at.opens + usize::from(gives) > MOST_VALUES {
-        return Some(Halt::Spent(Spent::Values));
+        *halt = Halt::Spent(Spent::Values);
+        return true;
     }
     let args = arguments(state.values.as_slice(), below, count);
     state.sp = below;
     state.place = behind(parts, at);
-    Some(Halt::Asks(Ask { call: number, args }))
+    *halt = Halt::Asks(Ask { call: number, args });
+    true
 }

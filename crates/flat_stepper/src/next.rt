@@ -11,19 +11,20 @@ pub enum Next {
     Goes(Spot),
     /// It was an end or an else, which costs no fuel, and the body goes on here.
     Passes(Spot),
-    /// It isn't executed.
-    Pauses(Pause),
+    /// It isn't executed, and the body stands here. The spot lies where that of the others does, so that the compiler
+    /// keeps its numbers in registers.
+    Pauses(Spot, Pause),
 }
 
 impl Next {
-    /// What an instruction that costs fuel came to.
+    /// What an instruction at this spot that costs fuel came to.
     #[inline(always)]
-    pub fn of(outcome: Result<Spot, Pause>) -> Next
-        ensures { result ≡ next_of outcome }
+    pub fn of(at: Spot, outcome: Result<Spot, Pause>) -> Next
+        ensures { result ≡ next_of at outcome }
     {
         match outcome {
             Ok(to) => Next::Goes(to),
-            Err(pause) => Next::Pauses(pause),
+            Err(pause) => Next::Pauses(at, pause),
         }
     }
 }

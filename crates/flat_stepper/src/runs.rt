@@ -1,12 +1,12 @@
 //! Runs of a machine, body by body.
-ghost use Rattle.std.specs.Prelude.{◌≡◌, ◌<◌, ◌≤◌, ◌-◌, length, map, reverse};
+ghost use Rattle.std.specs.Prelude.{◌≡◌, ◌<◌, ◌≤◌, ◌-◌, false, length, map, reverse};
 ghost use Rattle.flat_machine.specs.Tells.{opens_of};
 ghost use Rattle.flat_stepper.specs.Places.{place_of};
 ghost use Rattle.flat_machine.specs.Runs.{Runs, IsSafe};
 ghost use Rattle.flat_machine.specs.Halts.{HaltsSo};
 ghost use Rattle.flat_stepper.specs.Pauses.{PausesSo};
 ghost use Rattle.flat_stepper.specs.States.{flat_of, IsSound};
-ghost use Rattle.flat_stepper.specs.Outcomes.{AdvancesSo, weight};
+ghost use Rattle.flat_stepper.specs.Outcomes.{AdvancesSo, reason, weight};
 
 use crate::body::run_body;
 use crate::calls::{call_function, call_indirect};
@@ -58,39 +58,54 @@ fn go_on(state: &mut State, parts: &Parts, map: &CodeMap, budget: u64) -> (Pause
 }
 
 /// Executes instructions of the body at work, at most so many, and what comes then: a call, a return or the next
-/// function; or the array of values grows. Tells how many instructions they were, and whether the machine halts.
-fn advance(state: &mut State, parts: &Parts, map: &CodeMap, budget: u64) -> (Option<Halt>, u64)
+/// function; or the array of values grows. Tells whether the machine halts, and then why, and how many instructions they
+/// were.
+fn advance(
+    state: &mut State,
+    parts: &Parts,
+    map: &CodeMap,
+    budget: u64,
+    halt: &mut Halt,
+) -> (bool, u64)
     requires sound { IsSound state.old }
     requires safe { IsSafe parts.now map.now (flat_of state.old) }
     requires mapped { length parts.now.bodies ≤ length map.now.bodies }
     ensures sound { IsSound state.new }
     ensures within { result.1 ≤ budget }
-    ensures falls { result.0 ≡ None → weight (budget - result.1) state.new < weight budget state.old }
-    ensures advances { AdvancesSo parts.now map.now result.0 budget result.1 (flat_of state.old) (flat_of state.new) }
+    ensures falls { result.0 ≡ false → weight (budget - result.1) state.new < weight budget state.old }
+    ensures advances { AdvancesSo parts.now map.now (reason result.0 halt.new) budget result.1 (flat_of state.old)
+        (flat_of state.new) }
 {
     let (pause, count) = go_on(state, parts, map, budget);
     match pause {
-        Pause::Slice => (Some(Halt::Slice), count),
-        Pause::Trap(trap) => (Some(Halt::Trap(trap)), count + 1),
+        Pause::Slice => {
+            *halt = Halt::Slice;
+            (true, count)
+        }
+        Pause::Trap(trap) => {
+            *halt = Halt::Trap(trap);
+            (true, count + 1)
+        }
         Pause::Full => {
             let len = state.values.len();
             if len == MOST_VALUES {
-                return (Some(Halt::Spent(Spent::Values)), count + 1);
+                *halt = Halt::Spent(Spent::Values);
+                return (true, count + 1);
             }
             lengthen(&mut state.values, len + 1);
-            (None, count)
+            (false, count)
         }
         Pause::Over => {
-            let halt = leave(state, parts, map);
-            (halt, count)
+            let halts = leave(state, parts, map, halt);
+            (halts, count)
         }
         Pause::Call(function) => {
-            let halt = call_function(state, parts, map, function);
-            (halt, count + 1)
+            let halts = call_function(state, parts, map, function, halt);
+            (halts, count + 1)
         }
         Pause::CallIndirect(ty) => {
-            let halt = call_indirect(state, parts, map, ty);
-            (halt, count + 1)
+            let halts = call_indirect(state, parts, map, ty, halt);
+            (halts, count + 1)
         }
     }
 }
@@ -104,11 +119,12 @@ pub(crate) fn run(state: &mut State, parts: &Parts, map: &CodeMap, budget: u64) 
     ensures within { result.1 ≤ budget }
     ensures halts { HaltsSo parts.now map.now result.0 budget result.1 (flat_of state.old) (flat_of state.new) }
 {
+    let mut halt = Halt::Slice;
     let mut executed = 0;
     loop {
-        let (halt, count) = advance(state, parts, map, budget - executed);
+        let (halts, count) = advance(state, parts, map, budget - executed, &mut halt);
         executed += count;
-        if let Some(halt) = halt {
+        if halts {
             return (halt, executed);
         }
     }

@@ -29,21 +29,24 @@ pub fn step(
     ensures steps { NextOf within.now instr.now values.old memory.old globals.old at
         values.new memory.new globals.new result }
 {
+    // Arms for the least code and the greatest let the compiler jump by the code without a test of its range.
     match instr.code {
+        0x00 => known(0x00, within, instr, values, memory, globals, at),
+        0xFF => known(0xFF, within, instr, values, memory, globals, at),
         0x0B => Next::Passes(pass_end(within, instr, at)),
         0x05 => Next::Passes(pass_other(within, instr, at)),
-        0x02 | 0x03 => Next::of(begin(within, instr, values, at)),
+        0x02 | 0x03 => Next::of(at, begin(within, instr, values, at)),
         0x04 => Next::Goes(choose(within, instr, values, at)),
         0x0C | 0x0F => Next::Goes(branch(within, instr, values, at)),
         0x0D => Next::Goes(branch_if(within, instr, values, at)),
         0x0E => Next::Goes(branch_table(within, instr, values, at)),
-        0x10 => Next::Pauses(Pause::Call(index(instr.imm))),
-        0x11 => Next::Pauses(Pause::CallIndirect(index(instr.imm))),
-        0x20 => Next::of(local(within, instr, values, at)),
-        0x23 => Next::of(global(within, instr, values, memory, globals, at)),
-        0x3F => Next::of(size(within, instr, values, memory, globals, at)),
-        0x41 => Next::of(constant_32(within, instr, values, at)),
-        0x42 => Next::of(constant_64(within, instr, values, at)),
+        0x10 => Next::Pauses(at, Pause::Call(index(instr.imm))),
+        0x11 => Next::Pauses(at, Pause::CallIndirect(index(instr.imm))),
+        0x20 => Next::of(at, local(within, instr, values, at)),
+        0x23 => Next::of(at, global(within, instr, values, memory, globals, at)),
+        0x3F => Next::of(at, size(within, instr, values, memory, globals, at)),
+        0x41 => Next::of(at, constant_32(within, instr, values, at)),
+        0x42 => Next::of(at, constant_64(within, instr, values, at)),
         0x1A => known(0x1A, within, instr, values, memory, globals, at),
         0x1B => known(0x1B, within, instr, values, memory, globals, at),
         0x21 => known(0x21, within, instr, values, memory, globals, at),
@@ -51,31 +54,51 @@ pub fn step(
         0x28 => known(0x28, within, instr, values, memory, globals, at),
         0x29 => known(0x29, within, instr, values, memory, globals, at),
         0x2D => known(0x2D, within, instr, values, memory, globals, at),
+        0x35 => known(0x35, within, instr, values, memory, globals, at),
         0x36 => known(0x36, within, instr, values, memory, globals, at),
         0x37 => known(0x37, within, instr, values, memory, globals, at),
         0x3A => known(0x3A, within, instr, values, memory, globals, at),
+        0x3E => known(0x3E, within, instr, values, memory, globals, at),
         0x45 => known(0x45, within, instr, values, memory, globals, at),
         0x46 => known(0x46, within, instr, values, memory, globals, at),
         0x47 => known(0x47, within, instr, values, memory, globals, at),
         0x48 => known(0x48, within, instr, values, memory, globals, at),
         0x49 => known(0x49, within, instr, values, memory, globals, at),
+        0x4A => known(0x4A, within, instr, values, memory, globals, at),
         0x4B => known(0x4B, within, instr, values, memory, globals, at),
+        0x4C => known(0x4C, within, instr, values, memory, globals, at),
+        0x4D => known(0x4D, within, instr, values, memory, globals, at),
+        0x4E => known(0x4E, within, instr, values, memory, globals, at),
+        0x4F => known(0x4F, within, instr, values, memory, globals, at),
+        0x50 => known(0x50, within, instr, values, memory, globals, at),
+        0x51 => known(0x51, within, instr, values, memory, globals, at),
+        0x52 => known(0x52, within, instr, values, memory, globals, at),
+        0x54 => known(0x54, within, instr, values, memory, globals, at),
+        0x56 => known(0x56, within, instr, values, memory, globals, at),
         0x6A => known(0x6A, within, instr, values, memory, globals, at),
         0x6B => known(0x6B, within, instr, values, memory, globals, at),
         0x6C => known(0x6C, within, instr, values, memory, globals, at),
+        0x6E => known(0x6E, within, instr, values, memory, globals, at),
+        0x70 => known(0x70, within, instr, values, memory, globals, at),
         0x71 => known(0x71, within, instr, values, memory, globals, at),
         0x72 => known(0x72, within, instr, values, memory, globals, at),
         0x73 => known(0x73, within, instr, values, memory, globals, at),
         0x74 => known(0x74, within, instr, values, memory, globals, at),
+        0x75 => known(0x75, within, instr, values, memory, globals, at),
         0x76 => known(0x76, within, instr, values, memory, globals, at),
         0x77 => known(0x77, within, instr, values, memory, globals, at),
+        0x79 => known(0x79, within, instr, values, memory, globals, at),
+        0x7B => known(0x7B, within, instr, values, memory, globals, at),
         0x7C => known(0x7C, within, instr, values, memory, globals, at),
+        0x7D => known(0x7D, within, instr, values, memory, globals, at),
         0x7E => known(0x7E, within, instr, values, memory, globals, at),
+        0x80 => known(0x80, within, instr, values, memory, globals, at),
         0x83 => known(0x83, within, instr, values, memory, globals, at),
         0x84 => known(0x84, within, instr, values, memory, globals, at),
         0x85 => known(0x85, within, instr, values, memory, globals, at),
         0x86 => known(0x86, within, instr, values, memory, globals, at),
         0x88 => known(0x88, within, instr, values, memory, globals, at),
+        0x89 => known(0x89, within, instr, values, memory, globals, at),
         0xA7 => known(0xA7, within, instr, values, memory, globals, at),
         0xAD => known(0xAD, within, instr, values, memory, globals, at),
         _ => straight(within, instr, values, memory, globals, at),
@@ -102,7 +125,7 @@ fn straight(
 {
     match execute(instr, values, at.sp, within.base, memory, globals) {
         Ok(sp) => Next::Goes(behind(at, sp)),
-        Err(trap) => Next::Pauses(Pause::Trap(trap)),
+        Err(trap) => Next::Pauses(at, Pause::Trap(trap)),
     }
 }
 
@@ -126,21 +149,8 @@ fn known(
     ensures steps { NextOf within.now instr.now values.old memory.old globals.old at
         values.new memory.new globals.new result }
 {
-    let coded = with_code(code, instr);
-    match execute_here(&coded, values, at.sp, within.base, memory, globals) {
+    match execute_here(code, instr, values, at.sp, within.base, memory, globals) {
         Ok(sp) => Next::Goes(behind(at, sp)),
-        Err(trap) => Next::Pauses(Pause::Trap(trap)),
-    }
-}
-
-/// The instruction, whose code is this one.
-#[inline(always)]
-fn with_code(code: u8, instr: &Instr) -> Instr
-    requires { instr.now.code ≡ code }
-    ensures { result ≡ instr.now }
-{
-    Instr {
-        code,
-        imm: instr.imm,
+        Err(trap) => Next::Pauses(at, Pause::Trap(trap)),
     }
 }

@@ -36,12 +36,14 @@ pub fn execute(
     ensures memory { IfErr result (λ _. memory.new ≡ memory.old) }
     ensures globals { IfErr result (λ _. globals.new ≡ globals.old) }
 {
-    execute_here(instr, values, sp, base, memory, globals)
+    execute_here(instr.code, instr, values, sp, base, memory, globals)
 }
 
-/// The same as [`execute`], compiled where it is called: for an instruction whose code is known there.
-#[inline(always)]
+/// The same as [`execute`], for an instruction whose code is known where it is called: compiled there, the code leaves
+/// one effect alone.
+#[inline]
 pub fn execute_here(
+    code: u8,
     instr: &Instr,
     values: &mut [u64],
     sp: usize,
@@ -49,6 +51,7 @@ pub fn execute_here(
     memory: &mut Memory,
     globals: &mut [u64],
 ) -> Result<usize, Trap>
+    requires same { instr.now.code ≡ code }
     requires goes { CanGo (plain_of instr.now) values.old sp base memory.old globals.old }
     requires within { sp ≤ length values.old }
     requires none { AddsNone instr.now.code }
@@ -58,7 +61,7 @@ pub fn execute_here(
     ensures memory { IfErr result (λ _. memory.new ≡ memory.old) }
     ensures globals { IfErr result (λ _. globals.new ≡ globals.old) }
 {
-    match instr.code {
+    match code {
         0x00 => Err(Trap::Unreachable),
         0x01 => Ok(sp),
         0x1A => Ok(drop_top(values, sp)),
@@ -69,13 +72,13 @@ pub fn execute_here(
             Ok(sp)
         }
         0x24 => Ok(set_global(values, sp, globals, index_of(instr.imm))),
-        0x28..=0x35 => load_top(instr.code, offset_of(instr.imm), values, sp, memory),
-        0x36..=0x3E => store_top(instr.code, offset_of(instr.imm), values, sp, memory),
+        0x28..=0x35 => load_top(code, offset_of(instr.imm), values, sp, memory),
+        0x36..=0x3E => store_top(code, offset_of(instr.imm), values, sp, memory),
         0x40 => {
             grow_top(values, sp, memory);
             Ok(sp)
         }
-        0x45..=0xBF => numeric_top(instr.code, values, sp),
+        0x45..=0xBF => numeric_top(code, values, sp),
         _ => unreachable!(),
     }
 }

@@ -1,5 +1,6 @@
-use Rattle.std.proofs.Common.{◌-◌, arith}
+use Rattle.std.proofs.Common.{◌-◌, ◌∙◌, ap, arith}
 use Rattle.flat_machine.specs.Shown.{moved}
+use Rattle.flat_stepper.specs.declared.within.Spot.{Spot}
 use Rattle.flat_stepper.proofs.Running.{body_below, at_instr, behind_code, stands, runs_on, runs_past, is_over, instr_there}
 use Rattle.flat_stepper.proofs.Turns.{ready_turn, over_turn, held_turn}
 use Rattle.flat_stepper.proofs.body.run_body.Goals as goal
@@ -11,7 +12,7 @@ pub step-requires-clause-stands : goal.step-requires-clause-stands
 step-requires-clause-stands c = (c.args.parts.now, c.args.map.now, (moved c.requires.start.0 c.requires.start.1 c.loop-instr.values c.loop-instr.spot.sp c.loop-instr.memory c.loop-instr.globals c.loop-instr.spot.pc c.loop-instr.spot.opens), c.requires.start.1, (stands c.args.parts.now c.args.map.now c.requires.start.0 c.requires.start.1 c.args.values.now c.args.sp c.args.at c.args.outer c.args.memory.now c.args.globals.now c.requires.start.2 c.fetch-within.result c.fetch-within.ensures c.loop-instr.values c.loop-instr.memory c.loop-instr.globals c.loop-instr.spot (c.args.budget - c.loop-instr.left) c.in-Some.instr.now (c.loop-instr.invariant.runs c.requires.start.0 c.requires.start.1 c.requires.start.2) (at_instr c.fetch-within.result.code.now c.loop-instr.spot.pc c.in-Some.instr.now c.in-Some.ensures.lookup.3.0 (c.in-Some.ensures.lookup.3.1 c.in-Some.instr.now))))
 
 pub overflow_sub-left : goal.overflow_sub-left
-overflow_sub-left c = c.is_spent.ensures.more c.if-is_spent.false c.in-Goes.ensures.steps.0
+overflow_sub-left c = c.is_spent.ensures.more c.if-is_spent.false c.in-Some.instr.now (at_instr c.fetch-within.result.code.now c.loop-instr.spot.pc c.in-Some.instr.now c.in-Some.ensures.lookup.3.0 (c.in-Some.ensures.lookup.3.1 c.in-Some.instr.now)) c.in-Goes.ensures.steps.0
 
 pub loop-instr-preserved-in-Goes : goal.loop-instr-preserved-in-Goes
 loop-instr-preserved-in-Goes c = record {
@@ -19,7 +20,7 @@ loop-instr-preserved-in-Goes c = record {
   low = let low = c.loop-instr.invariant.low in omega arith;
   runs = λ flat has b. runs_on c.args.parts.now c.args.map.now (c.args.budget - c.loop-instr.left) _ flat (moved flat has c.loop-instr.values c.loop-instr.spot.sp c.loop-instr.memory c.loop-instr.globals c.loop-instr.spot.pc c.loop-instr.spot.opens) _ (c.loop-instr.invariant.runs flat has b)
       (c.in-Goes.ensures.steps.1 c.args.parts.now c.args.map.now (moved flat has c.loop-instr.values c.loop-instr.spot.sp c.loop-instr.memory c.loop-instr.globals c.loop-instr.spot.pc c.loop-instr.spot.opens) has (stands c.args.parts.now c.args.map.now flat has c.args.values.now c.args.sp c.args.at c.args.outer c.args.memory.now c.args.globals.now b c.fetch-within.result c.fetch-within.ensures c.loop-instr.values c.loop-instr.memory c.loop-instr.globals c.loop-instr.spot (c.args.budget - c.loop-instr.left) c.in-Some.instr.now (c.loop-instr.invariant.runs flat has b) (at_instr c.fetch-within.result.code.now c.loop-instr.spot.pc c.in-Some.instr.now c.in-Some.ensures.lookup.3.0 (c.in-Some.ensures.lookup.3.1 c.in-Some.instr.now))))
-      (let some = c.is_spent.ensures.more c.if-is_spent.false c.in-Goes.ensures.steps.0 in let low = c.loop-instr.invariant.low in omega arith);
+      (let some = c.is_spent.ensures.more c.if-is_spent.false c.in-Some.instr.now (at_instr c.fetch-within.result.code.now c.loop-instr.spot.pc c.in-Some.instr.now c.in-Some.ensures.lookup.3.0 (c.in-Some.ensures.lookup.3.1 c.in-Some.instr.now)) c.in-Goes.ensures.steps.0 in let low = c.loop-instr.invariant.low in omega arith);
 }
 
 pub loop-instr-preserved : goal.loop-instr-preserved
@@ -33,17 +34,17 @@ loop-instr-preserved c = record {
 pub returns-then-is_spent-clause-turns : goal.returns-then-is_spent-clause-turns
 returns-then-is_spent-clause-turns c flat has b =
     ready_turn c.args.parts.now c.args.map.now flat has c.loop-instr.values c.loop-instr.memory c.loop-instr.globals c.loop-instr.spot (c.args.budget - c.loop-instr.left) c.args.budget c.turn.result c.in-Some.instr.now (c.loop-instr.invariant.runs flat has b)
-    c.turn.ensures.pause c.turn.ensures.executed c.turn.ensures.pc c.turn.ensures.sp c.turn.ensures.opens (let none = (c.is_spent.ensures.spent c.if-is_spent.true).0 in omega arith)
-    (instr_there c.args.parts.now c.args.map.now flat has c.args.values.now c.args.sp c.args.at c.args.outer c.args.memory.now c.args.globals.now b c.fetch-within.result c.fetch-within.ensures c.loop-instr.values c.loop-instr.memory c.loop-instr.globals c.loop-instr.spot c.in-Some.instr.now (at_instr c.fetch-within.result.code.now c.loop-instr.spot.pc c.in-Some.instr.now c.in-Some.ensures.lookup.3.0 (c.in-Some.ensures.lookup.3.1 c.in-Some.instr.now))) (c.is_spent.ensures.spent c.if-is_spent.true).1.0 (c.is_spent.ensures.spent c.if-is_spent.true).1.1
+    c.turn.ensures.pause c.turn.ensures.executed c.turn.ensures.pc c.turn.ensures.sp c.turn.ensures.opens (let none = c.is_spent.ensures.spent c.if-is_spent.true in omega arith)
+    (instr_there c.args.parts.now c.args.map.now flat has c.args.values.now c.args.sp c.args.at c.args.outer c.args.memory.now c.args.globals.now b c.fetch-within.result c.fetch-within.ensures c.loop-instr.values c.loop-instr.memory c.loop-instr.globals c.loop-instr.spot c.in-Some.instr.now (at_instr c.fetch-within.result.code.now c.loop-instr.spot.pc c.in-Some.instr.now c.in-Some.ensures.lookup.3.0 (c.in-Some.ensures.lookup.3.1 c.in-Some.instr.now))) (c.is_spent.ensures.counted c.if-is_spent.true c.in-Some.instr.now (at_instr c.fetch-within.result.code.now c.loop-instr.spot.pc c.in-Some.instr.now c.in-Some.ensures.lookup.3.0 (c.in-Some.ensures.lookup.3.1 c.in-Some.instr.now))).0 (c.is_spent.ensures.counted c.if-is_spent.true c.in-Some.instr.now (at_instr c.fetch-within.result.code.now c.loop-instr.spot.pc c.in-Some.instr.now c.in-Some.ensures.lookup.3.0 (c.in-Some.ensures.lookup.3.1 c.in-Some.instr.now))).1
 
 pub returns-in-Pauses-clause-turns : goal.returns-in-Pauses-clause-turns
 returns-in-Pauses-clause-turns c flat has b =
     held_turn c.args.parts.now c.args.map.now flat has c.step.new.values c.step.new.memory c.step.new.globals (moved flat has c.loop-instr.values c.loop-instr.spot.sp c.loop-instr.memory c.loop-instr.globals c.loop-instr.spot.pc c.loop-instr.spot.opens) c.loop-instr.spot (c.args.budget - c.loop-instr.left) c.args.budget c.turn-in-Pauses.result c.in-Some.instr.now c.in-Pauses.pause
     (c.loop-instr.invariant.runs flat has b)
-    c.turn-in-Pauses.ensures.pause c.turn-in-Pauses.ensures.executed c.turn-in-Pauses.ensures.pc c.turn-in-Pauses.ensures.sp c.turn-in-Pauses.ensures.opens
-    (let some = c.is_spent.ensures.more c.if-is_spent.false c.in-Pauses.ensures.steps.0 in let low = c.loop-instr.invariant.low in omega arith)
+    c.turn-in-Pauses.ensures.pause c.turn-in-Pauses.ensures.executed (c.turn-in-Pauses.ensures.pc ∙ ap (λ (s : Spot). s.pc) c.in-Pauses.ensures.steps.0) (c.turn-in-Pauses.ensures.sp ∙ ap (λ (s : Spot). s.sp) c.in-Pauses.ensures.steps.0) (c.turn-in-Pauses.ensures.opens ∙ ap (λ (s : Spot). s.opens) c.in-Pauses.ensures.steps.0)
+    (let some = c.is_spent.ensures.more c.if-is_spent.false c.in-Some.instr.now (at_instr c.fetch-within.result.code.now c.loop-instr.spot.pc c.in-Some.instr.now c.in-Some.ensures.lookup.3.0 (c.in-Some.ensures.lookup.3.1 c.in-Some.instr.now)) c.in-Pauses.ensures.steps.1.0 in let low = c.loop-instr.invariant.low in omega arith)
     (instr_there c.args.parts.now c.args.map.now flat has c.args.values.now c.args.sp c.args.at c.args.outer c.args.memory.now c.args.globals.now b c.fetch-within.result c.fetch-within.ensures c.loop-instr.values c.loop-instr.memory c.loop-instr.globals c.loop-instr.spot c.in-Some.instr.now (at_instr c.fetch-within.result.code.now c.loop-instr.spot.pc c.in-Some.instr.now c.in-Some.ensures.lookup.3.0 (c.in-Some.ensures.lookup.3.1 c.in-Some.instr.now)))
-    (c.in-Pauses.ensures.steps.1 c.args.parts.now c.args.map.now (moved flat has c.loop-instr.values c.loop-instr.spot.sp c.loop-instr.memory c.loop-instr.globals c.loop-instr.spot.pc c.loop-instr.spot.opens) has (stands c.args.parts.now c.args.map.now flat has c.args.values.now c.args.sp c.args.at c.args.outer c.args.memory.now c.args.globals.now b c.fetch-within.result c.fetch-within.ensures c.loop-instr.values c.loop-instr.memory c.loop-instr.globals c.loop-instr.spot (c.args.budget - c.loop-instr.left) c.in-Some.instr.now (c.loop-instr.invariant.runs flat has b) (at_instr c.fetch-within.result.code.now c.loop-instr.spot.pc c.in-Some.instr.now c.in-Some.ensures.lookup.3.0 (c.in-Some.ensures.lookup.3.1 c.in-Some.instr.now))))
+    (c.in-Pauses.ensures.steps.1.1 c.args.parts.now c.args.map.now (moved flat has c.loop-instr.values c.loop-instr.spot.sp c.loop-instr.memory c.loop-instr.globals c.loop-instr.spot.pc c.loop-instr.spot.opens) has (stands c.args.parts.now c.args.map.now flat has c.args.values.now c.args.sp c.args.at c.args.outer c.args.memory.now c.args.globals.now b c.fetch-within.result c.fetch-within.ensures c.loop-instr.values c.loop-instr.memory c.loop-instr.globals c.loop-instr.spot (c.args.budget - c.loop-instr.left) c.in-Some.instr.now (c.loop-instr.invariant.runs flat has b) (at_instr c.fetch-within.result.code.now c.loop-instr.spot.pc c.in-Some.instr.now c.in-Some.ensures.lookup.3.0 (c.in-Some.ensures.lookup.3.1 c.in-Some.instr.now))))
 
 pub returns-clause-turns : goal.returns-clause-turns
 returns-clause-turns c flat has b =

@@ -4,7 +4,7 @@ use Rattle.code_map.specs.declared.callee.Callee.TheVariants as callee
 use Rattle.flat_machine.specs.Moves.{Move, Stuck, call_top, call_class, class_of}
 use Rattle.flat_machine.specs.Shown.{stack_of}
 use Rattle.flat_stepper.specs.States.{flat_of}
-use Rattle.flat_stepper.specs.Outcomes.{Calls}
+use Rattle.flat_stepper.specs.Outcomes.{Calls, reason}
 use Rattle.flat_stepper.proofs.Moving.{element_is, class_meets, class_fails}
 use Rattle.flat_stepper.proofs.calls.call_indirect.Goals as goal
 use Rattle.flat_stepper.proofs.calls.call_indirect.Goals.{In-Some-Some}
@@ -40,7 +40,7 @@ returns-then-class_of-as_slice-clause-calls c =
     let meets = class_meets c.args.parts.now c.args.map.now c.args.map.now.classes callees c.args.ty c.in-Some-Some.function (callee.Own 0 0 0 false 0)
     (stack_of s.values.items (s.sp - 1)) (flat_of s) (λ other. c.requires.applies (e ∙ other)) same in
     let calls = rw c.as_slice-in-Some-Some.ensures at c.call.ensures.calls in
-    subst (λ (move : Move). Calls move c.call.result (flat_of s) (flat_of c.call.new.state)) (sym (e ∙ meets)) calls
+    subst (λ (move : Move). Calls move (reason c.call.result c.call.new.halt) (flat_of s) (flat_of c.call.new.state)) (sym (e ∙ meets)) calls
 
 pub returns-else-class_of-as_slice-clause-calls : goal.returns-else-class_of-as_slice-clause-calls
 returns-else-class_of-as_slice-clause-calls c =

@@ -6,7 +6,7 @@ use Rattle.code_map.specs.declared.callee.Callee.TheVariants as callee
 use Rattle.tree_machine.specs.Config.{Invocation}
 use Rattle.flat_machine.specs.Moves.{Move, enter, enter_next}
 use Rattle.flat_stepper.specs.States.{flat_of}
-use Rattle.flat_stepper.specs.Outcomes.{Leaves, enters, IsOwn}
+use Rattle.flat_stepper.specs.Outcomes.{Leaves, enters, IsOwn, reason}
 use Rattle.flat_stepper.proofs.Moving.{own_there, enter_held, enters_is}
 use Rattle.flat_stepper.proofs.ends.enter_next.Goals as goal
 use Rattle.flat_stepper.proofs.ends.enter_next.Goals.{After-as_slice}
@@ -71,4 +71,4 @@ returns-clause-leaves c =
     let is = enters_is c.args.parts.now c.args.map.now (drop s.entered s.invocations.items) (drop (s.entered + 1) s.invocations.items) c.index.result.now
     (callee.Own c.in-Own.body c.in-Own.params c.in-Own.locals c.in-Own.gives c.in-Own.class) (flat_of s) (first_is a) (found a _ _ c.in-Own.is) in
     let leaves = c.enter.ensures.leaves c.in-Own.params c.in-Own.gives c.in-Own.class (λ stuck. c.requires.applies (is ∙ stuck)) in
-    subst (λ (move : Move). Leaves move c.enter.result (flat_of s) (flat_of c.enter.new.state)) (sym is) leaves
+    subst (λ (move : Move). Leaves move (reason c.enter.result c.enter.new.halt) (flat_of s) (flat_of c.enter.new.state)) (sym is) leaves

@@ -1,4 +1,4 @@
-use Rattle.std.proofs.Common.{arith}
+use Rattle.std.proofs.Common.{refl, arith}
 use Rattle.flat_stepper.proofs.Places.{step_within}
 use Rattle.flat_stepper.proofs.Straights.{can_go, straight_free, straight_arrives, straight_traps, still_shows}
 use Rattle.flat_stepper.proofs.Counting.{low_counted}
@@ -20,9 +20,12 @@ returns-in-Ok-clause-steps c = (
 
 pub returns-in-Err-clause-steps : goal.returns-in-Err-clause-steps
 returns-in-Err-clause-steps c = (
-  low_counted c.args.instr.now c.requires.code,
-  λ m map flat has s. (
-    straight_traps m map flat has c.args.within.now c.args.instr.now c.args.values.now c.args.memory.now c.args.globals.now c.args.at s c.requires.code c.in-Err.trap (c.in-Err.ensures.goes flat has s.shown (straight_free m map flat has c.args.within.now c.args.instr.now c.args.values.now c.args.memory.now c.args.globals.now c.args.at s c.requires.code)),
-    still_shows m map flat has c.args.within.now c.args.instr.now c.args.values.now c.args.memory.now c.args.globals.now c.args.at s c.execute.new.values c.execute.new.memory c.execute.new.globals c.in-Err.ensures.values c.in-Err.ensures.memory c.in-Err.ensures.globals,
+  refl,
+  (
+    low_counted c.args.instr.now c.requires.code,
+    λ m map flat has s. (
+      straight_traps m map flat has c.args.within.now c.args.instr.now c.args.values.now c.args.memory.now c.args.globals.now c.args.at s c.requires.code c.in-Err.trap (c.in-Err.ensures.goes flat has s.shown (straight_free m map flat has c.args.within.now c.args.instr.now c.args.values.now c.args.memory.now c.args.globals.now c.args.at s c.requires.code)),
+      still_shows m map flat has c.args.within.now c.args.instr.now c.args.values.now c.args.memory.now c.args.globals.now c.args.at s c.execute.new.values c.execute.new.memory c.execute.new.globals c.in-Err.ensures.values c.in-Err.ensures.memory c.in-Err.ensures.globals,
+    ),
   ),
 )
