@@ -20,8 +20,8 @@ use Rattle.world_rules.proofs.Rising.{turn_rise, settled_rise}
 use Rattle.world_rules.specs.laws.BirthLaws.{none_is_some, same_some, put_here}
 use Rattle.world_rules.specs.laws.KeepingLaws.{false_is_true}
 use Rattle.world_rules.specs.laws.CarryLaws.{put_other}
-use Rattle.world_rules.proofs.Walk.{Still, One, Whole, Rest, rest_of, IsLive, NobodyLives, over, child_there, same_counts, then_counts}
-use Rattle.world_rules.proofs.MildWalk.{LiveSame, one_live}
+use Rattle.world_rules.proofs.Walk.{Still, One, Posting, Whole, Rest, rest_of, IsLive, NobodyLives, over, child_there, same_counts, then_counts}
+use Rattle.world_rules.proofs.MildWalk.{LiveSame, one_live, fine, steps}
 use Rattle.world_rules.proofs.Chains.{touched_self, touched_then, touched_same, touched_put, there_or_begun, Begun, mild_there, change_start, ends_there}
 
 -- ONE PROCESS
@@ -551,9 +551,12 @@ begins_kept w parent start live number order =
 
 -- EACH STEP KEEPS
 
+pub posting_kept : Posting Keeps
+posting_kept = fine Keeps (record { self = self_kept; next = next_kept; still = still_kept; one = one_kept })
+
 pub whole_kept : Whole Keeps
 whole_kept = record {
-  mild = record { self = self_kept; next = next_kept; still = still_kept; one = one_kept };
+  mild = steps Keeps posting_kept;
   ends = ends_kept;
   dooms = dooms_kept;
   overs = overs_kept;

@@ -80,11 +80,11 @@ rise_between n [] ys rise below above behind = (above, behind)
 rise_between n (x ∷ xs) ys rise below above behind =
     (above_append x n xs ys rise.0 below.0 above, rise_between n xs ys rise.1 below.1 above behind)
 
-with_rise : (n : ℕ) (xs : List ℕ) → Rise xs → Rise (with_number n xs)
+pub with_rise : (n : ℕ) (xs : List ℕ) → Rise xs → Rise (with_number n xs)
 with_rise n xs rise =
     rise_between n (filter (λ k. nat_lt k n) xs) (filter (λ k. nat_lt n k) xs) (rise_filter (λ k. nat_lt k n) xs rise) (lesser n xs) (greater n xs) (rise_filter (λ k. nat_lt n k) xs rise)
 
-without_rise : (n : ℕ) (xs : List ℕ) → Rise xs → Rise (without_number n xs)
+pub without_rise : (n : ℕ) (xs : List ℕ) → Rise xs → Rise (without_number n xs)
 without_rise n xs rise = rise_filter (λ k. not (nat_eq k n)) xs rise
 
 -- LOCAL CALLS

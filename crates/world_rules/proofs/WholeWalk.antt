@@ -39,7 +39,7 @@ use Rattle.world_rules.specs.laws.BirthLaws.{counted, process_counted, HasBirth,
 use Rattle.world_rules.specs.laws.CarryLaws.{put_other, numbers_recorded}
 use Rattle.world_rules.specs.laws.KeepingLaws.{false_is_true}
 use Rattle.world_rules.proofs.Walk.{Whole, IsLive, NobodyLives, over, child_there, more_spawns}
-use Rattle.world_rules.proofs.MildWalk.{stage_put, LiveSame, live_mild, if_walk, put_walk, arrival_walk, replied_walk, arrived_walk, send_walk, receive_walk, sleep_walk, die_walk, outside_walk, taken_walk, recorded_walk, home_walk, shut_walk, ticked_walk}
+use Rattle.world_rules.proofs.MildWalk.{stage_put, LiveSame, live_mild, if_walk, put_walk, arrival_walk, replied_walk, fine, steps, send_walk, receive_walk, sleep_walk, die_walk, outside_walk, taken_walk, recorded_walk, home_walk, shut_walk, ticked_walk}
 
 -- LISTS
 
@@ -244,7 +244,7 @@ signals_stand w after members EndIs.Done others = tt
 signals_stand w after members _ others = members_told w after members members others
 
 arrived_live : (w : World) (to : ℕ) (tag : ℕ) → IsLive w to → LiveSame w (arrived w to (Signal tag))
-arrived_live w to tag live = arrived_walk LiveSame live_mild w to (Signal tag) (record { live = live; room = λ e. false_is_true e })
+arrived_live w to tag live = (steps LiveSame (fine LiveSame live_mild)).signals w to tag live
 
 -- BIRTHS
 
@@ -342,20 +342,20 @@ birth_numbered terms births w give worker at fits request wanted spawns start fo
 
 module _ (R : World → World → Type 0) (k : Whole R) where
   self : (w : World) → R w w
-  self w = k.mild.self w
+  self w = k.mild.calm.self w
 
   step : (a b c : World) → R a b → R b c → R a c
-  step a b c first second = k.mild.next a b c first second
+  step a b c first second = k.mild.calm.next a b c first second
 
   reply_then : (w mid : World) (pid : ℕ) (request : Request) (reply : Reply) → R w mid → R w (replied mid pid request reply)
-  reply_then w mid pid request reply first = step w mid (replied mid pid request reply) first (replied_walk R k.mild mid pid request reply)
+  reply_then w mid pid request reply first = step w mid (replied mid pid request reply) first (replied_walk R k.mild.calm mid pid request reply)
 
   outside_end_walk : (w : World) (pid : ℕ) (end : End) → can_end (w.process pid).stage ≡ true → R w (ended_from_outside w pid end)
   outside_end_walk w pid end can =
       let p : Process = reached (w.process pid) (Came.Doomed end) in
       let mid : World = with_process w pid p in
       step w mid (ended_from_outside w pid end)
-      (arrival_walk R k.mild w pid (Came.Doomed end) (ends_there (w.process pid).stage can))
+      (arrival_walk R k.mild.calm w pid (Came.Doomed end) (ends_there (w.process pid).stage can))
       (k.ends mid pid end (ap (λ (s : Stage). can_end s) (stage_put w pid p) ∙ can))
 
   struck_walk : (stage : Stage) (w : World) (pid : ℕ) (end : End) → (w.process pid).stage ≡ stage → R w (struck stage w pid end)
@@ -390,7 +390,7 @@ module _ (R : World → World → Type 0) (k : Whole R) where
   told_walk w (told ∷ rest) all =
       let mid : World = arrived w told.to (Signal told.tag) in
       step w mid (all_told mid rest)
-      (arrived_walk R k.mild w told.to (Signal told.tag) (record { live = all.0; room = λ e. false_is_true e }))
+      (k.mild.signals w told.to told.tag all.0)
       (told_walk mid rest (live_after w mid rest (arrived_live w told.to told.tag all.0) all.1))
 
   fallen_walk : (before after : World) (pid : ℕ) (end : End) → R before after → ((q : ℕ) → q ≢ pid → after.process q ≡ before.process q)
@@ -433,7 +433,7 @@ module _ (R : World → World → Type 0) (k : Whole R) where
       let answer : ℕ = link_answer w pid other refused in
       let linked : World = with_link w pid other (Some (arg request 0)) in
       reply_then w (if nat_eq answer 0 then linked else w) pid request (number_reply answer)
-      (if_walk R k.mild (nat_eq answer 0) w linked w
+      (if_walk R k.mild.calm (nat_eq answer 0) w linked w
       (λ zero. k.linked w pid other (arg request 0) (ap (λ (s : Stage). is_live s) there)
       (zero_link (not (nat_eq other pid)) (is_live (w.process other).stage) refused zero))
       (λ isnt. self w))
@@ -444,7 +444,7 @@ module _ (R : World → World → Type 0) (k : Whole R) where
       let answer : ℕ = put_answer w other refused in
       let there : World = with_name w request.first (Some other) in
       reply_then w (if nat_eq answer 0 then there else w) pid request (number_reply answer)
-      (if_walk R k.mild (nat_eq answer 0) w there w
+      (if_walk R k.mild.calm (nat_eq answer 0) w there w
       (λ zero. k.named w request.first other (zero_name (is_live (w.process other).stage) refused zero)) (λ isnt. self w))
 
   born_walk : (w : World) (pid : ℕ) (request : Request) (start : Start) → (w.process pid).stage ≡ Ready → start.pid ≡ next_number w →
@@ -455,14 +455,14 @@ module _ (R : World → World → Type 0) (k : Whole R) where
       let alive : IsLive w pid = ap (λ (s : Stage). is_live s) there in
       let mid : World = child_there w start in
       let first : R w mid = k.begins w pid start alive number in
-      if_walk R k.mild (nat_eq tag 0) w mid (with_link mid pid child (Some tag))
+      if_walk R k.mild.calm (nat_eq tag 0) w mid (with_link mid pid child (Some tag))
       (λ zero. first)
       (λ more. step w mid (with_link mid pid child (Some tag)) first
       (k.linked mid pid child tag (still_live w pid child start alive)
       (ap (λ (s : Stage). is_live s) (stage_put w child (fresh_process start Ready)))))
 
   spawn_walk : (w : World) → R w (spawn_counted w)
-  spawn_walk w = k.mild.still w (spawn_counted w) (record { process = λ q. refl; rest = refl; counts = more_spawns w })
+  spawn_walk w = k.mild.calm.still w (spawn_counted w) (record { process = λ q. refl; rest = refl; counts = more_spawns w }) refl
 
   spawned_walk : (birth : Option Birth) (w : World) (pid : ℕ) (request : Request) → (w.process pid).stage ≡ Ready →
       ((start : Start) → birth ≡ Some (Born start) → start.pid ≡ next_number w) → R w (spawned birth w pid request)
@@ -476,43 +476,43 @@ module _ (R : World → World → Type 0) (k : Whole R) where
       reply_then w (spawn_counted w) pid request (number_reply reply) (spawn_walk w)
 
   call_walk : (births : List Birth) (call : HostCall) (w : World) (pid : ℕ) (request : Request) (side : Side) → (w.process pid).stage ≡ Ready
-      → (call ≡ CallIs.Spawn → IsNumbered births w) → R w (call_performed births call w pid request side)
-  call_walk births CallIs.Send w pid request side there numbered = send_walk R k.mild w pid request (is_refused side) there
-  call_walk births CallIs.Receive w pid request side there numbered = receive_walk R k.mild w pid request there
-  call_walk births CallIs.Exists w pid request side there numbered =
-      replied_walk R k.mild w pid request (number_reply (if is_live (w.process (arg request 0)).stage then 1 else 0))
-  call_walk births CallIs.Spawn w pid request side there numbered =
+      → (call ≡ CallIs.Spawn → IsNumbered births w) → call_of request ≡ Some call → R w (call_performed births call w pid request side)
+  call_walk births CallIs.Send w pid request side there numbered named = send_walk R k.mild w pid request (is_refused side) there
+  call_walk births CallIs.Receive w pid request side there numbered named = receive_walk R k.mild w pid request there
+  call_walk births CallIs.Exists w pid request side there numbered named =
+      replied_walk R k.mild.calm w pid request (number_reply (if is_live (w.process (arg request 0)).stage then 1 else 0))
+  call_walk births CallIs.Spawn w pid request side there numbered named =
       spawned_walk (next_birth births w) w pid request there (numbered refl)
-  call_walk births CallIs.Kill w pid request side there numbered = kill_walk w pid request
-  call_walk births CallIs.Link w pid request side there numbered = link_walk w pid request (is_refused side) there
-  call_walk births CallIs.Unlink w pid request side there numbered =
+  call_walk births CallIs.Kill w pid request side there numbered named = kill_walk w pid request
+  call_walk births CallIs.Link w pid request side there numbered named = link_walk w pid request (is_refused side) there
+  call_walk births CallIs.Unlink w pid request side there numbered named =
       reply_then w (with_link w pid (arg request 0) None) pid request empty_reply (k.unlinked w pid (arg request 0))
-  call_walk births CallIs.DieWhenLinkDies w pid request side there numbered = die_walk R k.mild w pid request there
-  call_walk births CallIs.SleepMs w pid request side there numbered = sleep_walk R k.mild w pid request there
-  call_walk births CallIs.RegistryPut w pid request side there numbered = put_name_walk w pid request (is_refused side)
-  call_walk births CallIs.RegistryGet w pid request side there numbered =
-      replied_walk R k.mild w pid request
+  call_walk births CallIs.DieWhenLinkDies w pid request side there numbered named = die_walk R k.mild w pid request there
+  call_walk births CallIs.SleepMs w pid request side there numbered named = sleep_walk R k.mild w pid request named there
+  call_walk births CallIs.RegistryPut w pid request side there numbered named = put_name_walk w pid request (is_refused side)
+  call_walk births CallIs.RegistryGet w pid request side there numbered named =
+      replied_walk R k.mild.calm w pid request
       (option_map_or (λ (named : ℕ). written_reply 0 (arg request 2) named) (w.names request.first) (number_reply 1))
-  call_walk births CallIs.RegistryRemove w pid request side there numbered =
+  call_walk births CallIs.RegistryRemove w pid request side there numbered named =
       reply_then w (with_name w request.first None) pid request empty_reply (k.nameless w request.first)
-  call_walk births CallIs.Bind w pid request side there numbered = outside_walk R k.mild CallIs.Bind w pid request side there
-  call_walk births CallIs.LocalPort w pid request side there numbered = outside_walk R k.mild CallIs.LocalPort w pid request side there
-  call_walk births CallIs.Accept w pid request side there numbered = outside_walk R k.mild CallIs.Accept w pid request side there
-  call_walk births CallIs.Connect w pid request side there numbered = outside_walk R k.mild CallIs.Connect w pid request side there
-  call_walk births CallIs.ReadStream w pid request side there numbered = outside_walk R k.mild CallIs.ReadStream w pid request side there
-  call_walk births CallIs.WriteStream w pid request side there numbered = outside_walk R k.mild CallIs.WriteStream w pid request side there
-  call_walk births _ w pid request side there numbered = self w
+  call_walk births CallIs.Bind w pid request side there numbered named = outside_walk R k.mild CallIs.Bind w pid request side there
+  call_walk births CallIs.LocalPort w pid request side there numbered named = outside_walk R k.mild CallIs.LocalPort w pid request side there
+  call_walk births CallIs.Accept w pid request side there numbered named = outside_walk R k.mild CallIs.Accept w pid request side there
+  call_walk births CallIs.Connect w pid request side there numbered named = outside_walk R k.mild CallIs.Connect w pid request side there
+  call_walk births CallIs.ReadStream w pid request side there numbered named = outside_walk R k.mild CallIs.ReadStream w pid request side there
+  call_walk births CallIs.WriteStream w pid request side there numbered named = outside_walk R k.mild CallIs.WriteStream w pid request side there
+  call_walk births _ w pid request side there numbered named = self w
 
   request_walk : (births : List Birth) (call : Option HostCall) (w : World) (pid : ℕ) (request : Request) (side : Side) → (w.process pid).stage ≡ Ready
-      → (call ≡ Some CallIs.Spawn → IsNumbered births w) → R w (performed births call w pid request side)
-  request_walk births None w pid request side there numbered = self w
-  request_walk births (Some call) w pid request side there numbered =
-      call_walk births call w pid request side there (λ same. numbered (ap (λ (c : HostCall). Some c) same))
+      → (call ≡ Some CallIs.Spawn → IsNumbered births w) → call_of request ≡ call → R w (performed births call w pid request side)
+  request_walk births None w pid request side there numbered named = self w
+  request_walk births (Some call) w pid request side there numbered named =
+      call_walk births call w pid request side there (λ same. numbered (ap (λ (c : HostCall). Some c) same)) named
 
   ask_walk : (pending : Bool) (births : List Birth) (w : World) (pid : ℕ) (request : Request) (side : Side) → (w.process pid).stage ≡ Ready
       → (call_of request ≡ Some CallIs.Spawn → IsNumbered births w) → R w (asked pending births w pid request side)
-  ask_walk true births w pid request side there numbered = put_walk R k.mild w pid (Pends request) there refl
-  ask_walk false births w pid request side there numbered = request_walk births (call_of request) w pid request side there numbered
+  ask_walk true births w pid request side there numbered = put_walk R k.mild.calm w pid (Pends request) there refl refl
+  ask_walk false births w pid request side there numbered = request_walk births (call_of request) w pid request side there numbered refl
 
   retry_walk : (owed : Option Request) (births : List Birth) (w : World) (pid : ℕ) (side : Side) → (w.process pid).stage ≡ Ready
       → ((request : Request) → owed ≡ Some request → call_of request ≡ Some CallIs.Spawn → IsNumbered births w)

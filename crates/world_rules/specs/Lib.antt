@@ -28,6 +28,9 @@ pub mod Told
 pub mod Legal
 pub mod Touches
 pub mod Sound
+pub mod Placed
+pub mod Queue
+pub mod Unmet
 pub mod Falls
 pub mod Lives
 pub mod Report
