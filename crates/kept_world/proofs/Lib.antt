@@ -1,0 +1,6 @@
+mod Alike
+mod MailAlike
+mod EndsAlike
+mod NextAlike
+mod AllowedAlike
+mod WhatWorkersTake
