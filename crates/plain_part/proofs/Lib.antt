@@ -1,0 +1,3 @@
+pub mod ConfigLaws
+pub mod LocalLaws
+pub mod SlotLaws

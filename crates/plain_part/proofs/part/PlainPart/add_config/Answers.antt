@@ -1,0 +1,8 @@
+use Rattle.plain_part.specs.Shown.{shown_part}
+use Rattle.plain_part.proofs.ConfigLaws.{same_configs}
+use Rattle.plain_part.proofs.part.PlainPart.add_config.Goals as goal
+
+pub returns : goal.returns
+returns c =
+    same_configs (shown_part c.args.self.now) _ _ _ _ c.in_ok-create_config.ensures.put
+    c.in_ok-create_config.ensures.next
