@@ -1,2 +1,15 @@
 pub mod Applied
+pub mod Awaited
+pub mod Fall
+pub mod Give
+pub mod Gives
+pub mod Journal
 pub mod Kept
+pub mod Marked
+pub mod Move
+pub mod Parent
+pub mod Picked
+pub mod Shown
+pub mod Stage
+pub mod Turned
+pub mod What

@@ -1,27 +1,25 @@
-ghost use Rattle.std.specs.Prelude.{IfOk, OnErr, None};
-ghost use Rattle.journal.specs.World.{World};
-ghost use Rattle.journal.specs.Allowed.{Allowed};
-ghost use Rattle.journal.specs.Plain.{Shows};
+ghost use Rattle.std.specs.Prelude.{IfOk};
+ghost use Rattle.plain_world.specs.Shown.{shown_world};
 ghost use Rattle.plain_world.specs.Applied.{IsApplied};
 
-use journal::{Entry, PlainWorld};
+use crate::PlainWorld;
 use memory_refusal::NoMemory;
-use std::alloc::Global;
+use world_rules::{Birth, Entry};
 
-/// The world after this entry; None exactly where the entry is not allowed. `NoMemory` comes for want
-/// of memory alone, and only where the entry is allowed; then the world is let go.
+/// The world after this entry; None exactly where the entry is not allowed. What spawns come to is taken from the
+/// births, and nothing is tested against terms. `NoMemory` comes where `allows` or `advance` answers it; then the
+/// world is let go.
 pub fn apply(
-    alloc: Global,
     world: PlainWorld,
+    births: &[Birth],
     entry: &Entry,
 ) -> Result<Option<PlainWorld>, NoMemory>
-    ensures applied { IfOk result (λ next. (w : World) → Shows world w → IsApplied w entry.now next) }
-    ensures wants { OnErr result ((w : World) → Shows world w → Allowed None w entry.now) }
+    ensures { IfOk result (λ next. IsApplied births.now (shown_world world) entry.now next) }
 {
-    if !world.allows(entry) {
+    if !world.allows(births, entry)? {
         return Ok(None);
     }
-    let mut world = world;
-    world.advance(alloc, entry)?;
-    Ok(Some(world))
+    let mut next = world;
+    next.advance(births, entry)?;
+    Ok(Some(next))
 }

@@ -1,41 +1,38 @@
-use Rattle.std.proofs.Common.{sym, subst, refl, arith}
-use Rattle.journal.specs.Book.{Book}
-use Rattle.journal.specs.Runs.{told}
-use Rattle.plain_world.specs.Kept.{IsKept, IsTaken}
-use Rattle.plain_world.proofs.Keeping.{takes-going, takes-end}
+use Rattle.std.proofs.Common.{◌≡◌, List, None, ap, ◌∙◌, subst}
+use Rattle.world_rules.specs.declared.entry.Entry.{Entry}
+use Rattle.world_rules.specs.declared.life.Birth.{Birth}
+use Rattle.world_rules.specs.Allowed.{Allowed}
+use Rattle.world_rules.specs.Book.{Book}
+use Rattle.world_rules.specs.Rules.{next}
+use Rattle.world_rules.specs.World.{World}
+use Rattle.plain_world.specs.Kept.{run_of, IsTaken}
+use Rattle.plain_world.specs.Shown.{shown_world}
+use Rattle.plain_world.proofs.RunLaws.{run_takes, is_taken}
 use Rattle.plain_world.proofs.run.PlainRun.take.Goals as goal
-use Rattle.plain_world.proofs.run.PlainRun.take.Goals.{then-ended-end_count, else-ended-end_count}
 
 pub invariant_of-result : goal.invariant_of-result
 invariant_of-result c =
-    let old : Book = c.self.inside.journal in
-    let allowed = (c.if-not-allows.ensures (told old) c.self.invariant.shows).0 refl in
-    let P : Book → Type 0 = λ book. IsKept book c.advance.new.self in
-    elim c.if-ended-end_count.branch [
-      | then-ended-end_count w ↦ subst P (sym w.journal-is)
-          (takes-end old c.reserve.new.self c.add.new.self w.ended.new.self c.self.inside.world c.advance.new.self
-          c.args.entry c.self.invariant c.in_ok-reserve.ensures.kept c.add.ensures w.ended.ensures
-          allowed c.in_ok-advance.ensures (omega arith)).kept
-      | else-ended-end_count w ↦ subst P (sym w.journal-is)
-          (takes-going old c.reserve.new.self c.add.new.self c.self.inside.world c.advance.new.self
-          c.args.entry c.self.invariant c.in_ok-reserve.ensures.kept c.add.ensures
-          allowed c.in_ok-advance.ensures (omega arith)).kept
-    ]
+    let births : List Birth = c.self.inside.births.items in
+    let w : World = shown_world c.self.inside.world in
+    let allowed : Allowed None births w c.args.entry =
+    subst (λ (bs : List Birth). Allowed None bs w c.args.entry) c.as_slice.ensures.value
+    (c.in_ok-allows.ensures.0 c.if-not-branch.false) in
+    let goes : shown_world c.advance.new.self ≡ next births w c.args.entry =
+    c.in_ok-advance.ensures ∙ ap (λ (bs : List Birth). next bs w c.args.entry) c.as_slice-2.ensures.value in
+    run_takes births c.self.inside.entries.items c.push.new.self.items c.args.entry w (shown_world c.advance.new.self)
+    c.self.invariant allowed c.in_ok-push.ensures.items goes
 
-pub returns-clause-taken : goal.returns-clause-taken
-returns-clause-taken c =
-    let old : Book = c.self.inside.journal in
-    let allowed = (c.if-not-allows.ensures (told old) c.self.invariant.shows).0 refl in
-    let P : Book → Type 0 = λ book. IsTaken old book c.args.entry in
-    let Q : Book → Type 0 = λ book. IsTaken book c.if-ended-end_count.journal c.args.entry in
-    subst Q c.self.view_is
-    (elim c.if-ended-end_count.branch [
-      | then-ended-end_count w ↦ subst P (sym w.journal-is)
-          (takes-end old c.reserve.new.self c.add.new.self w.ended.new.self c.self.inside.world c.advance.new.self
-          c.args.entry c.self.invariant c.in_ok-reserve.ensures.kept c.add.ensures w.ended.ensures
-          allowed c.in_ok-advance.ensures (omega arith)).taken
-      | else-ended-end_count w ↦ subst P (sym w.journal-is)
-          (takes-going old c.reserve.new.self c.add.new.self c.self.inside.world c.advance.new.self
-          c.args.entry c.self.invariant c.in_ok-reserve.ensures.kept c.add.ensures
-          allowed c.in_ok-advance.ensures (omega arith)).taken
-    ])
+pub returns : goal.returns
+returns c =
+    let births : List Birth = c.self.inside.births.items in
+    let w : World = shown_world c.self.inside.world in
+    let later : World = shown_world c.advance.new.self in
+    let all : List Entry = c.push.new.self.items in
+    let allowed : Allowed None births w c.args.entry =
+    subst (λ (bs : List Birth). Allowed None bs w c.args.entry) c.as_slice.ensures.value
+    (c.in_ok-allows.ensures.0 c.if-not-branch.false) in
+    let goes : later ≡ next births w c.args.entry =
+    c.in_ok-advance.ensures ∙ ap (λ (bs : List Birth). next bs w c.args.entry) c.as_slice-2.ensures.value in
+    subst (λ (old : Book). IsTaken old (run_of births all later) c.args.entry) c.self.view_is
+    (is_taken births c.self.inside.entries.items all c.args.entry w later c.self.invariant allowed
+    c.in_ok-push.ensures.items goes)

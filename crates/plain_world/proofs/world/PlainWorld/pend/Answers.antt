@@ -1,0 +1,16 @@
+use Rattle.std.proofs.Common.{ap, Some}
+use Rattle.world_rules.specs.World.{Process}
+use Rattle.host_port.specs.declared.request.Request.{Request}
+use Rattle.world_rules.specs.World.{Ready}
+use Rattle.plain_world.specs.Shown.{shown_process, shown_world}
+use Rattle.plain_world.proofs.ProcessList.{put_changed_ok}
+use Rattle.plain_world.proofs.world.PlainWorld.pend.Goals as goal
+
+pub returns : goal.returns
+returns c =
+    put_changed_ok c.put_process.result (shown_world c.args.self.now) (shown_world c.take_process-process.new.self)
+    (shown_world c.put_process.new.self) c.args.pid (shown_process c.take_process-process.result) _ (λ (p : Process). record p { stage = Ready; owed = Some c.args.request.now })
+    c.take_process-process.ensures.taken c.take_process-process.ensures.left
+    (ap (λ (r : Request). record (shown_process c.take_process-process.result) { stage = Ready; owed = Some r })
+    c.in_ok-owed.ensures)
+    c.put_process.ensures

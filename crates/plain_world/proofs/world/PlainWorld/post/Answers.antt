@@ -1,0 +1,15 @@
+use Rattle.std.proofs.Common.{ap, List, [], ◌∷◌, ◌++◌}
+use Rattle.world_rules.specs.World.{Process}
+use Rattle.world_rules.specs.Mail.{MailItem}
+use Rattle.plain_part.specs.Shown.{shown_item}
+use Rattle.plain_world.specs.Shown.{shown_process, shown_world}
+use Rattle.plain_world.proofs.ProcessList.{put_changed_ok}
+use Rattle.plain_world.proofs.world.PlainWorld.post.Goals as goal
+
+pub returns : goal.returns
+returns c =
+    put_changed_ok c.put_process.result (shown_world c.args.self.now) (shown_world c.take_process-process.new.self)
+    (shown_world c.put_process.new.self) c.args.to (shown_process c.take_process-process.result) _ (λ (p : Process). record p { mail = p.mail ++ shown_item c.args.item ∷ [] })
+    c.take_process-process.ensures.taken c.take_process-process.ensures.left
+    (ap (λ (mail : List MailItem). record (shown_process c.take_process-process.result) { mail = mail }) c.in_ok-push.ensures)
+    c.put_process.ensures
