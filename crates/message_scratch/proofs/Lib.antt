@@ -1,0 +1,4 @@
+pub mod Slots
+pub mod Closings
+pub mod Numbers
+pub mod Bounds
