@@ -24,7 +24,7 @@ echo 'bench: fuel_stepper host_port module_reader module_validator' >>"$work/cra
 cp bench/starts.rt.txt "$work/crates/bench/src/main.rt"
 touch "$work/crates/bench/specs/Lib.antt" "$work/crates/bench/proofs/Lib.antt"
 [ -f HANDLES ] && cp HANDLES "$work/"
-(cd "$work/crates/bench" && rt run) >"$work/log" 2>&1 || { tail -20 "$work/log"; exit 1; }
+(cd "$work/crates/bench" && rt run) >"$work/log" 2>&1 || { tail -200 "$work/log"; exit 1; }
 TIMEFORMAT=%U
 for run in 1 2 3 4 5; do
     for word in make accept start; do
