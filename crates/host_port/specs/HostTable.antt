@@ -23,7 +23,7 @@ all_rows = message_rows ++ process_rows ++ config_rows ++ registry_rows ++ netwo
 
 -- the numbers of the calls that the host serves
 abbrev pub served : List ℕ
-served = 0 ∷ 8 ∷ 9 ∷ 10 ∷ []
+served = 0 ∷ 1 ∷ 2 ∷ 3 ∷ 4 ∷ 5 ∷ 8 ∷ 9 ∷ 10 ∷ 17 ∷ 35 ∷ []
 
 -- the host serves the call of this number
 unfoldable pub is_served : ℕ → Bool
