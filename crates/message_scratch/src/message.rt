@@ -14,6 +14,7 @@ use std::marker::Model;
 const MOST_BYTES: usize = 1_048_576;
 
 /// A message: its tag, its bytes, and one slot for each stream that was pushed into it.
+#[derive(Drop)]
 pub struct Message<S: Stream> {
     tag: u64,
     bytes: Vec<u8>,

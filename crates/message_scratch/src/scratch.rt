@@ -17,6 +17,7 @@ use std::marker::Model;
 const PLACES: usize = 64;
 
 /// The scratch area of a process: a message, of which so many bytes were read, or none.
+#[derive(Drop)]
 pub struct Scratch<S: Stream> {
     alloc: Global,
     message: Option<Message<S>>,
@@ -193,6 +194,23 @@ impl<S: Stream> Scratch<S> {
             None => {}
             Some(_) => unreachable!(),
         }
+    }
+}
+
+impl<S: Stream + Drop> Scratch<S> {
+    /// Makes a blank message of this tag. The old message is dropped, with its streams.
+    pub fn renew(&mut self, tag: u64)
+        ensures { self.new ≡ Some (unread (blank_message tag)) }
+    {
+        self.put(Message::new(self.alloc, tag));
+    }
+
+    /// Takes a message, to be read from its first byte on. The old message is dropped, with its streams.
+    pub fn put(&mut self, message: Message<S>)
+        ensures { self.new ≡ Some (unread message) }
+    {
+        self.read_place = 0;
+        self.message = Some(message);
     }
 }
 

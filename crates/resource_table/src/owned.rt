@@ -4,7 +4,9 @@ ghost use Rattle.resource_table.specs.Steps.{Reads, Writes, IsShut, told};
 use outside::{IoStep, Stream};
 use std::marker::Model;
 
-/// A stream with its number. It is not `Drop`, `Clone` or `Copy`: it is handed on, or gives its stream up by name.
+/// A stream with its number. It is neither `Clone` nor `Copy`, and `Drop` only where its stream is: over other streams it is
+/// handed on, or gives its stream up by name.
+#[derive(Drop)]
 pub struct Owned<S: Stream> {
     number: u64,
     stream: S,

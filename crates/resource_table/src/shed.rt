@@ -13,6 +13,7 @@ use std::marker::Model;
 const PLACES: usize = 320;
 
 /// Streams that were shut, on their way out of a process. There are 320 places.
+#[derive(Drop)]
 pub struct Shed<S: Stream> {
     handles: VecDeque<Owned<S>>,
 }
