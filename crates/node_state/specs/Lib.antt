@@ -1,0 +1,7 @@
+pub mod Seats
+pub mod Slots
+pub mod Held
+pub mod Fits
+pub mod Changes
+pub mod Posts
+pub mod Rows
