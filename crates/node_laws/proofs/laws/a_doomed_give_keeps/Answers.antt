@@ -1,0 +1,5 @@
+use Rattle.node_laws.proofs.Ends.{keeps-doomed}
+use Rattle.node_laws.proofs.laws.a_doomed_give_keeps.Goals as goal
+
+pub returns : goal.returns
+returns g c = λ setting. keeps-doomed
