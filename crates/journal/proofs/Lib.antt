@@ -1,8 +1,2 @@
-mod WantedTags
-mod Appends
-mod GrowingCalls
-pub mod GrowingExits
-mod LocalCalls
-mod PlainLaws
-mod ReportSteps
-mod SendAnswers
+mod Goings
+mod SameLists

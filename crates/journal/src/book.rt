@@ -1,11 +1,11 @@
 ghost use Rattle.std.specs.Prelude.{◌≡◌, ◌<◌, ◌↔◌, [], length, slice_get, IsTrue, OnOk};
 ghost use Rattle.std.specs.Option.{option_copied};
-ghost use Rattle.journal.specs.Book.{IsBlank, KeepsAll, HasRoom, AddsEntry, AddsBirth, AddsEnd};
+ghost use Rattle.world_rules.specs.Book.{IsBlank, KeepsAll, HasRoom, AddsEntry, AddsBirth, AddsEnd};
 
-use crate::{Birth, Ended, Entry};
 use memory_refusal::NoMemory;
 use std::alloc::Global;
 use std::marker::Model;
+use world_rules::{Birth, Ended, Entry};
 
 /// What happened in a run: its entries, its births and its ends, each in order.
 #[derive(Debug, Drop)]
@@ -17,7 +17,7 @@ pub struct Journal {
 
 impl Model for Journal {
     ghost use Rattle.std.specs.Prelude.{◌-◌, ◌≤◌, min, vec_len, vec_capacity};
-    ghost use Rattle.journal.specs.Book.{Book};
+    ghost use Rattle.world_rules.specs.Book.{Book};
 
     ghost Value = { Book };
 

@@ -1,7 +1,7 @@
 use crate::words::{push_field, push_words, word_of_fault, word_of_limit, word_of_trap};
-use crate::{Entry, Halt, Side};
 use memory_refusal::NoMemory;
 use std::alloc::Global;
+use world_rules::{Entry, Halt, Side};
 
 fn push_halt(text: &mut String, halt: &Halt) -> Result<(), NoMemory> {
     match halt {
@@ -15,6 +15,7 @@ fn push_halt(text: &mut String, halt: &Halt) -> Result<(), NoMemory> {
             push_field(text, " ", u64::from(request.ask.call))
         }
         Halt::NoMemory => push_words(text, " NoMemory", ""),
+        Halt::Again => push_words(text, " Again", ""),
     }
 }
 
@@ -22,12 +23,18 @@ fn push_side(text: &mut String, side: &Side) -> Result<(), NoMemory> {
     match side {
         Side::Nothing => push_words(text, " Nothing", ""),
         Side::Clock(now) => push_field(text, " Clock ", *now),
+        Side::Pending => push_words(text, " Pending", ""),
+        Side::Answer(reply) => match reply.result {
+            Some(result) => push_field(text, " Answer ", result),
+            None => push_words(text, " Answer", ""),
+        },
+        Side::Opened => push_words(text, " Opened", ""),
         Side::NoMemory => push_words(text, " NoMemory", ""),
     }
 }
 
-/// A line for reading alone, without a line feed: the variant's name and its numbers. Of the
-/// local calls it has the count, of a request the number of its call.
+/// A line for reading alone, without a line feed: the variant's name and its numbers. Of the local calls it has the
+/// count, of a request the number of its call, of an answer from outside its result.
 pub fn entry_text(alloc: Global, entry: &Entry) -> Result<Vec<u8>, NoMemory> {
     let mut text = String::new(alloc);
     match entry {
@@ -50,7 +57,12 @@ pub fn entry_text(alloc: Global, entry: &Entry) -> Result<Vec<u8>, NoMemory> {
             push_halt(&mut text, halt)?;
             push_side(&mut text, side)?;
         }
+        Entry::Tick { worker, now } => {
+            push_field(&mut text, "Tick worker ", u64::from(*worker))?;
+            push_field(&mut text, " now ", *now)?;
+        }
         Entry::Stall { worker } => push_field(&mut text, "Stall worker ", u64::from(*worker))?,
+        Entry::Idle { worker } => push_field(&mut text, "Idle worker ", u64::from(*worker))?,
         Entry::Starve { worker } => push_field(&mut text, "Starve worker ", u64::from(*worker))?,
     }
     Ok(text.into_bytes())

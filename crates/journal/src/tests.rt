@@ -1,7 +1,8 @@
-use crate::{Ended, Entry, Halt, Journal, Side, entry_text};
-use host_port::Calls;
+use crate::{Journal, entry_text};
+use host_port::{Calls, Reply};
 use std::alloc::Global;
 use std::test::Fail;
+use world_rules::{Entry, Halt, Side};
 
 fn give(alloc: Global, fuel: u64, halt: Halt, side: Side) -> Entry {
     Entry::Give {
@@ -30,7 +31,12 @@ fn a_journal_keeps_what_is_added(rt: HostRuntime) -> Result<(), Fail> {
 #[test]
 fn an_entry_is_a_line(rt: HostRuntime) -> Result<(), Fail> {
     let alloc = rt.alloc();
-    let table: [(Entry, &[u8]); 4] = [
+    let answer = Reply {
+        result: Some(4),
+        word: None,
+        text: None,
+    };
+    let table: [(Entry, &[u8]); 6] = [
         (Entry::Take { worker: 0, pid: 1 }, b"Take worker 0 pid 1"),
         (
             give(alloc, 2, Halt::Done, Side::Nothing),
@@ -40,6 +46,11 @@ fn an_entry_is_a_line(rt: HostRuntime) -> Result<(), Fail> {
             give(alloc, 9, Halt::NoMemory, Side::Clock(5)),
             b"Give worker 3 pid 1 calls 0 fuel 9 NoMemory Clock 5",
         ),
+        (
+            give(alloc, 9, Halt::Again, Side::Answer(answer)),
+            b"Give worker 3 pid 1 calls 0 fuel 9 Again Answer 4",
+        ),
+        (Entry::Tick { worker: 2, now: 70 }, b"Tick worker 2 now 70"),
         (Entry::Starve { worker: 15 }, b"Starve worker 15"),
     ];
     for (entry, text) in &table {

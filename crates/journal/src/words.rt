@@ -1,11 +1,11 @@
 ghost use Rattle.std.specs.Prelude.{◌≡◌, ◌++◌, string_bytes, OnOk};
 ghost use Rattle.std.specs.Fmt.{decimal};
-ghost use Rattle.journal.specs.Report.{trap_word, spent_word, fault_word};
+ghost use Rattle.world_rules.specs.Report.{trap_word, spent_word, fault_word};
 
-use crate::HostFault;
 use host_port::Spent;
 use memory_refusal::NoMemory;
 use wasm_ops::Trap;
+use world_rules::HostFault;
 
 /// The word that a report has for a trap.
 pub fn word_of_trap(trap: Trap) -> &'static str
@@ -41,6 +41,13 @@ pub fn word_of_fault(fault: HostFault) -> &'static str
     match fault {
         HostFault::NoMessage => "nomessage",
         HostFault::BadPointer => "badpointer",
+        HostFault::NoSuchHandle => "nosuchhandle",
+        HostFault::EmptyPlace => "emptyplace",
+        HostFault::PlacesFull => "placesfull",
+        HostFault::TableFull => "tablefull",
+        HostFault::BadSeek => "badseek",
+        HostFault::NoSuchConfig => "nosuchconfig",
+        HostFault::NoSuchListener => "nosuchlistener",
     }
 }
 

@@ -1,5 +1,5 @@
-use Rattle.journal.specs.RunLaws.{Legal-told}
+use Rattle.world_rules.specs.laws.LifeLaws.{legal_tells}
 use Rattle.journal.proofs.laws.a_legal_journal_tells.Goals as goal
 
 pub returns : goal.returns
-returns c = Legal-told
+returns c = legal_tells
