@@ -1,10 +1,30 @@
--- What holds of the calls that the host serves today. Each is computed from their rows.
-use Rattle.std.proofs.Common.{◌≡◌, ◌≢◌, ◌⊎◌, ℕ, ◌&&◌, ◌||◌, Bool, true, false, not, nat_eq, List, [], ◌∷◌, find, cond, option_map, Option, Some, None, IsSome, arith, refl, sym, ap, ◌∙◌, subst, inl, inr}
+-- Which calls a node gives back: what holds of the calls that the host serves today is computed from their rows.
+use Rattle.std.proofs.Common.{◌≡◌, ◌≢◌, ◌⊎◌, ℕ, ◌&&◌, ◌||◌, ◌++◌, Bool, true, false, nat_eq, List, [], ◌∷◌, find, cond, option_map, slice_get, Option, Some, None, IsSome, arith, refl, sym, ap, ◌∙◌}
+use Rattle.std.proofs.Common.{subst, inl, inr}
 use Rattle.std.specs.List.{list_all}
 use Rattle.std.proofs.lemmas.Bool.Decides.{nat_tests}
+use Rattle.host_port.specs.declared.ask.Ask.{Ask}
+use Rattle.host_port.specs.declared.call.Call.{Call}
+use Rattle.host_port.specs.declared.request.Request.{Request}
+use Rattle.host_port.specs.declared.start.Start.{Start}
 use Rattle.host_port.specs.declared.row.MayCome.{MayCome}
 use Rattle.host_port.specs.declared.row.MayCome.TheVariants as comes
-use Rattle.host_port.specs.HostTable.{Row, all_rows, is_served, host_table, row_of, is_local, is_local_kind, may_come_of}
+use Rattle.host_port.specs.HostTable.{Row, all_rows, is_served, host_table, row_of, known_row_of, is_local_kind}
+use Rattle.host_port.specs.Standing.{Owing}
+use Rattle.host_port.proofs.RowLaws.{row_if_served}
+use Rattle.world_rules.specs.declared.entry.Side.{Side}
+use Rattle.world_rules.specs.declared.entry.Side.TheVariants as SideIs
+use Rattle.world_rules.specs.declared.halt.Halt.TheVariants.{Asks}
+use Rattle.world_rules.specs.declared.life.Birth.{Birth}
+use Rattle.world_rules.specs.Allowed.{GivesTurn, SideFits}
+use Rattle.world_rules.specs.Allowed.{TurnFits as IsAllowedTurn}
+use Rattle.world_rules.specs.Lives.{Setting, OwnTurnIsRun, IsTurnOfProgram, terms_of}
+use Rattle.world_rules.specs.Part.{Part}
+use Rattle.world_rules.specs.Views.{Given}
+use Rattle.world_rules.specs.World.{World, Process}
+use Rattle.node_state.specs.Seats.{Meaning, Seat}
+use Rattle.node_state.specs.Fits.{TurnFits, give_of}
+use Rattle.node_state.specs.Rows.{AllHaveRows}
 
 both : (a b : Bool) → (a && b) ≡ true → (a ≡ true) × (b ≡ true)
 both true true e = (refl, refl)
@@ -26,125 +46,151 @@ same_call : (a b : ℕ) → nat_eq a b ≡ true → a ≡ b
 same_call a b e = grind (arith, nat_tests)
 
 -- what a test says of each row that is served, it says of the row of a call
-pub served_has : (test : Row → Bool) → list_all test host_table ≡ true → (call : ℕ) (row : Row) → row_of call ≡ Some row → (test row ≡ true) × (row.call ≡ call)
+served_has : (test : Row → Bool) → list_all test host_table ≡ true → (call : ℕ) (row : Row) → row_of call ≡ Some row → (test row ≡ true) × (row.call ≡ call)
 unfolding row_of
 served_has test each call row is =
     let h = found_has host_table (λ (r : Row). nat_eq r.call call) test row each is in
     (h.0, same_call row.call call h.1)
 
-one_of : (a b c : Bool) → (a || (b || c)) ≡ true → a ≡ false → (b ≡ true) ⊎ (c ≡ true)
-one_of true b c e f = absurd (cc)
-one_of false true c e f = inl refl
-one_of false false c e f = inr e
-
-one_same : (call number a b : ℕ) → number ≡ call → (nat_eq number a ≡ true) ⊎ (nat_eq number b ≡ true) → (call ≡ a) ⊎ (call ≡ b)
-one_same call number a b is (inl e) = inl (sym is ∙ same_call number a e)
-one_same call number a b is (inr e) = inr (sym is ∙ same_call number b e)
-
-not_false : (b : Bool) → b ≡ true → not b ≡ false
-not_false true e = refl
-not_false false e = absurd (cc)
-
--- a local call is create_data or process_id
-abbrev local_is : Row → Bool
-local_is row = not (is_local_kind (Some row.kind)) || (nat_eq row.call 0 || nat_eq row.call 10)
-
-local_are : list_all local_is host_table ≡ true
-unfolding all_rows is_served
-local_are = refl
-
-by_local : (call : ℕ) (o : Option Row) → row_of call ≡ o → is_local_kind (option_map (λ (row : Row). row.kind) o) ≡ true → (call ≡ 0) ⊎ (call ≡ 10)
-by_local call None is own = absurd (cc)
-by_local call (Some row) is own =
-    let h = served_has local_is local_are call row is in
-    one_same call row.call 0 10 h.1 (one_of (not (is_local_kind (Some row.kind))) (nat_eq row.call 0) (nat_eq row.call 10) h.0 (not_false (is_local_kind (Some row.kind)) own))
-
-pub local_calls : (call : ℕ) → is_local call ≡ true → (call ≡ 0) ⊎ (call ≡ 10)
-local_calls call own = by_local call (row_of call) refl own
-
--- beside every other call but send the clock comes, and the call is receive
+-- a call of the world is a send, beside which nothing comes, or a receive or a sleep, beside which the clock comes
 abbrev is_clock : MayCome → Bool
 is_clock comes.Nothing = false
 is_clock comes.Clock = true
 is_clock (comes.Answer pending opened) = false
 
+abbrev is_nothing : MayCome → Bool
+is_nothing comes.Nothing = true
+is_nothing comes.Clock = false
+is_nothing (comes.Answer pending opened) = false
+
 abbrev other_is : Row → Bool
-other_is row = is_local_kind (Some row.kind) || (nat_eq row.call 8 || is_clock row.may_come)
+other_is row = is_local_kind (Some row.kind) || ((nat_eq row.call 8 && is_nothing row.may_come) || ((nat_eq row.call 9 || nat_eq row.call 17) && is_clock row.may_come))
 
 other_are : list_all other_is host_table ≡ true
 unfolding all_rows is_served
 other_are = refl
 
-abbrev clock_is : Row → Bool
-clock_is row = not (is_clock row.may_come) || (nat_eq row.call 9 || nat_eq row.call 9)
+-- a call, with what comes beside it
+pub data AskedCall : ℕ → Option MayCome → Type 0 where
+  sends : AskedCall 8 (Some comes.Nothing)
+  receives : AskedCall 9 (Some comes.Clock)
+  sleeps : AskedCall 17 (Some comes.Clock)
 
-clock_are : list_all clock_is host_table ≡ true
-unfolding all_rows is_served
-clock_are = refl
+the_nothing : (m : MayCome) → is_nothing m ≡ true → m ≡ comes.Nothing
+the_nothing comes.Nothing e = refl
+the_nothing comes.Clock e = absurd (cc)
+the_nothing (comes.Answer pending opened) e = absurd (cc)
 
 the_clock : (m : MayCome) → is_clock m ≡ true → m ≡ comes.Clock
 the_clock comes.Nothing e = absurd (cc)
 the_clock comes.Clock e = refl
 the_clock (comes.Answer pending opened) e = absurd (cc)
 
-pub nothing_or_clock : Some comes.Nothing ≡ Some comes.Clock → ⊥
-nothing_or_clock e = cc
+by_tests : (number : ℕ) (m : MayCome) (eight nine seventeen none clock : Bool) → nat_eq number 8 ≡ eight → nat_eq number 9 ≡ nine → nat_eq number 17 ≡ seventeen → is_nothing m ≡ none
+    → is_clock m ≡ clock
+    → ((eight && none) || ((nine || seventeen) && clock)) ≡ true → AskedCall number (Some m)
+by_tests number m true nine seventeen true clock a b c d e h = rw (same_call number 8 a, the_nothing m d) sends
+by_tests number m true true seventeen false true a b c d e h = rw (same_call number 9 b, the_clock m e) receives
+by_tests number m true false true false true a b c d e h = rw (same_call number 17 c, the_clock m e) sleeps
+by_tests number m true false false false true a b c d e h = absurd (cc)
+by_tests number m true true seventeen false false a b c d e h = absurd (cc)
+by_tests number m true false true false false a b c d e h = absurd (cc)
+by_tests number m true false false false false a b c d e h = absurd (cc)
+by_tests number m false true seventeen none true a b c d e h = rw (same_call number 9 b, the_clock m e) receives
+by_tests number m false false true none true a b c d e h = rw (same_call number 17 c, the_clock m e) sleeps
+by_tests number m false false false none clock a b c d e h = absurd (cc)
+by_tests number m false true seventeen none false a b c d e h = absurd (cc)
+by_tests number m false false true none false a b c d e h = absurd (cc)
 
-send_or_clock : (call number : ℕ) (m : MayCome) → number ≡ call → Some m ≡ Some comes.Nothing → (nat_eq number 8 ≡ true) ⊎ (is_clock m ≡ true) → call ≡ 8
-send_or_clock call number m is none (inl e) = sym is ∙ same_call number 8 e
-send_or_clock call number m is none (inr e) = absurd (nothing_or_clock (sym none ∙ ap Some (the_clock m e)))
+not_local : (b rest : Bool) → (b || rest) ≡ true → b ≡ false → rest ≡ true
+not_local true rest e f = absurd (cc)
+not_local false rest e f = e
 
-by_send : (call : ℕ) (o : Option Row) → row_of call ≡ o → is_local_kind (option_map (λ (row : Row). row.kind) o) ≡ false → option_map (λ (row : Row). row.may_come) o ≡ Some comes.Nothing → call ≡ 8
-by_send call None is other none = absurd (cc)
-by_send call (Some row) is other none =
+by_row : (call : ℕ) (row : Row) → row_of call ≡ Some row → is_local_kind (Some row.kind) ≡ false → AskedCall call (Some row.may_come)
+by_row call row is foreign =
     let h = served_has other_is other_are call row is in
-    send_or_clock call row.call row.may_come h.1 none (one_of (is_local_kind (Some row.kind)) (nat_eq row.call 8) (is_clock row.may_come) h.0 other)
+    let rest = not_local (is_local_kind (Some row.kind)) ((nat_eq row.call 8 && is_nothing row.may_come) || ((nat_eq row.call 9 || nat_eq row.call 17) && is_clock row.may_come)) h.0 foreign in
+    subst (λ (n : ℕ). AskedCall n (Some row.may_come)) h.1
+    (by_tests row.call row.may_come (nat_eq row.call 8) (nat_eq row.call 9) (nat_eq row.call 17) (is_nothing row.may_come) (is_clock row.may_come) refl refl refl refl refl rest)
 
--- a call of the world beside which nothing comes is send
-pub send_calls : (call : ℕ) → is_local call ≡ false → may_come_of call ≡ Some comes.Nothing → call ≡ 8
-send_calls call other none = by_send call (row_of call) refl other none
+-- the row of a call that is served is its row among all
+known_too : (served : Bool) (known : Option Row) (row : Row) → cond served known None ≡ Some row → known ≡ Some row
+known_too true known row e = e
+known_too false known row e = absurd (cc)
 
-both_nine : (call : ℕ) → (call ≡ 9) ⊎ (call ≡ 9) → call ≡ 9
-both_nine call (inl e) = e
-both_nine call (inr e) = e
+by_served : (call : ℕ) (o : Option Row) → row_of call ≡ o → IsSome o → is_local_kind (option_map (λ (row : Row). row.kind) (known_row_of call)) ≡ false
+    → AskedCall call (option_map (λ (row : Row). row.may_come) (known_row_of call))
+by_served call None is there foreign = absurd (cc)
+by_served call (Some row) is there foreign =
+    let known : known_row_of call ≡ Some row = known_too (is_served call) (known_row_of call) row (sym (row_if_served call) ∙ is) in
+    let kind : is_local_kind (Some row.kind) ≡ false = rw known at foreign in
+    rw known (by_row call row is kind)
 
-clock_true : (m : MayCome) → Some m ≡ Some comes.Clock → not (is_clock m) ≡ false
-clock_true comes.Nothing e = let h : ⊥ = cc in absurd h
-clock_true comes.Clock e = refl
-clock_true (comes.Answer pending opened) e = let h : ⊥ = cc in absurd h
+-- THE REQUEST OF A TURN
 
-by_clock : (call : ℕ) (o : Option Row) → row_of call ≡ o → option_map (λ (row : Row). row.may_come) o ≡ Some comes.Clock → call ≡ 9
-by_clock call None is clock = absurd (cc)
-by_clock call (Some row) is clock =
-    let h = served_has clock_is clock_are call row is in
-    both_nine call (one_same call row.call 9 9 h.1 (one_of (not (is_clock row.may_come)) (nat_eq row.call 9) (nat_eq row.call 9) h.0 (clock_true row.may_come clock)))
+-- a program whose engine owes the reply to an ask may ask it
+abbrev pub AsksWhatItMay : {E P : Type 0} → Meaning E P → (P → ℕ → Type 0) → Type 0
+AsksWhatItMay {E = E} {P = P} engines may_ask =
+    (engine : E) (program : P) (start : Start) (calls : List Call) (fuel : ℕ) (ask : Ask) → engines.stands engine program start calls fuel → engines.phase engine ≡ Owing ask → may_ask program ask.call
 
--- the clock comes with receive alone
-pub clock_calls : (call : ℕ) → may_come_of call ≡ Some comes.Clock → call ≡ 9
-clock_calls call clock = by_clock call (row_of call) refl clock
+asked_served : {E P : Type 0} {engines : Meaning E P} {may_ask : P → ℕ → Type 0} {setting : Setting P} → AsksWhatItMay engines may_ask → AllHaveRows may_ask setting.programs
+    → (births : List Birth) (w : World) (worker pid : ℕ) (seat : Seat E) (calls : List Call) (request : Request) (side : Side)
+    → TurnFits engines setting births w worker pid seat calls (Asks request) side → IsSome (row_of request.ask.call)
+asked_served {setting = setting} asks rows births w worker pid seat calls request side fits =
+    let p : Process = w.process pid in
+    let give : Given = give_of worker pid calls seat.fuel (Asks request) side in
+    let turn : IsTurnOfProgram setting p give = subst (λ (o : Option Request). OwnTurnIsRun setting p give o) fits.own fits.turn in
+    rows p.start.«module» turn.program turn.found request.ask.call
+    (asks seat.engine turn.program p.start (p.calls ++ calls) seat.fuel request.ask (fits.seated.stands turn.program turn.found) fits.phase.0)
 
--- beside each call that is served comes nothing or the clock
+-- what comes beside which call
+pub data AskedBeside (call : ℕ) : Side → Type 0 where
+  beside_send : call ≡ 8 → AskedBeside call SideIs.Nothing
+  beside_receive : (now : ℕ) → call ≡ 9 → AskedBeside call (SideIs.Clock now)
+  beside_sleep : (now : ℕ) → call ≡ 17 → AskedBeside call (SideIs.Clock now)
 
-abbrev is_answer : MayCome → Bool
-is_answer comes.Nothing = false
-is_answer comes.Clock = false
-is_answer (comes.Answer pending opened) = true
+by_side : (call : ℕ) (m : Option MayCome) (w : World) (pid : ℕ) (part : Part) (request : Request) (side : Side) → AskedCall call m → SideFits m w pid part request side → side ≢ SideIs.NoMemory
+    → AskedBeside call side
+by_side _ _ w pid part request SideIs.Nothing sends fits asked = beside_send refl
+by_side _ _ w pid part request SideIs.NoMemory sends fits asked = absurd (asked refl)
+by_side _ _ w pid part request (SideIs.Clock now) sends fits asked = absurd fits
+by_side _ _ w pid part request SideIs.Pending sends fits asked = absurd fits
+by_side _ _ w pid part request (SideIs.Answer reply) sends fits asked = absurd fits
+by_side _ _ w pid part request SideIs.Opened sends fits asked = absurd fits
+by_side _ _ w pid part request (SideIs.Clock now) receives fits asked = beside_receive now refl
+by_side _ _ w pid part request SideIs.Nothing receives fits asked = absurd fits
+by_side _ _ w pid part request SideIs.NoMemory receives fits asked = absurd fits
+by_side _ _ w pid part request SideIs.Pending receives fits asked = absurd fits
+by_side _ _ w pid part request (SideIs.Answer reply) receives fits asked = absurd fits
+by_side _ _ w pid part request SideIs.Opened receives fits asked = absurd fits
+by_side _ _ w pid part request (SideIs.Clock now) sleeps fits asked = beside_sleep now refl
+by_side _ _ w pid part request SideIs.Nothing sleeps fits asked = absurd fits
+by_side _ _ w pid part request SideIs.NoMemory sleeps fits asked = absurd fits
+by_side _ _ w pid part request SideIs.Pending sleeps fits asked = absurd fits
+by_side _ _ w pid part request (SideIs.Answer reply) sleeps fits asked = absurd fits
+by_side _ _ w pid part request SideIs.Opened sleeps fits asked = absurd fits
 
-abbrev unanswered : Row → Bool
-unanswered row = not (is_answer row.may_come)
+-- what a worker brings back with a request asks for a send, a receive or a sleep, with what comes beside it
+pub asked-beside : {E P : Type 0} {engines : Meaning E P} {may_ask : P → ℕ → Type 0} {setting : Setting P} → AsksWhatItMay engines may_ask → AllHaveRows may_ask setting.programs
+    → (births : List Birth) (w : World) (worker pid : ℕ) (seat : Seat E) (calls : List Call) (request : Request) (side : Side)
+    → TurnFits engines setting births w worker pid seat calls (Asks request) side → AskedBeside request.ask.call side
+asked-beside {setting = setting} asks rows births w worker pid seat calls request side fits =
+    let p : Process = w.process pid in
+    let give : Given = give_of worker pid calls seat.fuel (Asks request) side in
+    let t : IsAllowedTurn (Some (terms_of setting)) births w p give = subst (λ (o : Option Request). GivesTurn (Some (terms_of setting)) births w p give o) fits.own fits.allowed.turn in
+    by_side request.ask.call _ w pid _ request side
+    (by_served request.ask.call (row_of request.ask.call) refl (asked_served asks rows births w worker pid seat calls request side fits) t.halted.kind)
+    t.halted.beside.side fits.asked
 
-unanswered_are : list_all unanswered host_table ≡ true
-unfolding all_rows is_served
-unanswered_are = refl
+-- the call beside which nothing came; those beside which the clock came; and nothing else comes
+pub nothing-sends : (call : ℕ) → AskedBeside call SideIs.Nothing → call ≡ 8
+nothing-sends call (beside_send is) = is
 
-none_if : (m : MayCome) → not (is_answer m) ≡ true → Some m ≢ Some comes.Clock → Some m ≡ Some comes.Nothing
-none_if comes.Nothing no' other = refl
-none_if comes.Clock no' other = absurd (other refl)
-none_if (comes.Answer pending opened) no' other = absurd (cc)
+pub clock-waits : (call now : ℕ) → AskedBeside call (SideIs.Clock now) → call ≢ 17 → call ≡ 9
+clock-waits call now (beside_receive _ is) other = is
+clock-waits call now (beside_sleep _ is) other = absurd (other is)
 
-by_row : (call : ℕ) (o : Option Row) → row_of call ≡ o → IsSome o → option_map (λ (row : Row). row.may_come) o ≢ Some comes.Clock → option_map (λ (row : Row). row.may_come) o ≡ Some comes.Nothing
-by_row call None is there other = absurd (cc)
-by_row call (Some row) is there other = none_if row.may_come (served_has unanswered unanswered_are call row is).0 other
-
-pub nothing_comes : (call : ℕ) → IsSome (row_of call) → may_come_of call ≢ Some comes.Clock → may_come_of call ≡ Some comes.Nothing
-nothing_comes call there other = by_row call (row_of call) refl there other
+pub nothing-else : (call : ℕ) (side : Side) → AskedBeside call side → side ≢ SideIs.Nothing → ((now : ℕ) → side ≢ SideIs.Clock now) → ⊥
+nothing-else call _ (beside_send is) none clock = none refl
+nothing-else call _ (beside_receive now is) none clock = clock now refl
+nothing-else call _ (beside_sleep now is) none clock = clock now refl

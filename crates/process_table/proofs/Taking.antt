@@ -1,122 +1,259 @@
-use Rattle.std.proofs.Common.{◌≡◌, ◌<◌, ◌≤◌, ℕ, ◌+◌, List, [], ◌∷◌, length, Option, Some, None, Bool, true, false, slice_get, slice_set, get_or, append-nil, refl, arith, sym, ◌∙◌, ap, subst}
-use Rattle.std.proofs.lemmas.Option.{slice_get_within, get_or_from_slice_get}
+use Rattle.std.proofs.Common.{◌≡◌, ◌<◌, ◌≤◌, ℕ, ◌+◌, ◌-◌, List, [], ◌∷◌, ◌++◌, length, Option, Some, None, IsSome, IsTrue, ◌↔◌, Bool, true, false, slice_get, slice_set, get_or, length-set}
+use Rattle.std.proofs.Common.{append-nil, refl, arith, sym, ◌∙◌, ap, subst, ◌⊎◌, inl, inr}
+use Rattle.std.proofs.lemmas.Option.{slice_get_within, slice_get_read, get_or_from_slice_get}
+use Rattle.std.specs.FinMap.{FinMap, get}
+use Rattle.std.specs.Ordering.{nat_cmp}
+use Rattle.run_queue.specs.Schedule.{Schedule}
+use Rattle.tagged_mailbox.specs.Mail.{Mail}
 use Rattle.host_port.specs.declared.call.Call.{Call}
 use Rattle.host_port.specs.declared.start.Start.{Start}
 use Rattle.host_port.specs.declared.start.StartRefusal.{StartRefusal}
 use Rattle.host_port.specs.Standing.{Standing, Running}
-use Rattle.journal.specs.declared.entry.Entry.{Entry}
-use Rattle.journal.specs.declared.entry.Entry.TheVariants.{Take, Stall}
-use Rattle.journal.specs.Book.{Book, AddsEntry}
-use Rattle.journal.specs.World.{World, Out}
-use Rattle.journal.specs.Runs.{told}
-use Rattle.journal.specs.Lives.{Setting}
-use Rattle.world_laws.specs.Seats.{Meaning, Seat, IsSeatOf}
-use Rattle.world_laws.specs.Stands.{Held, StandsFor}
-use Rattle.world_laws.specs.Changes.{Records, TakesFront}
-use Rattle.world_laws.proofs.ReadyList.{true_is_not_false}
-use Rattle.world_laws.proofs.Takes.{keeps-take, front-seat}
-use Rattle.world_laws.proofs.Shows.{shown-taken, front-first}
-use Rattle.process_table.specs.declared.process.Proc.{Proc}
-use Rattle.process_table.specs.declared.message.Letter.{Letter}
-use Rattle.process_table.specs.Seen.{Seen, seen, setting_of}
-use Rattle.process_table.specs.Holds.{Keeps, held_of, seat_of, seat_in}
-use Rattle.process_table.specs.Takes.{TakesProcess, TakesOver, RecordsEntry, away_in}
-use Rattle.process_table.specs.Rows.{AllHaveRows}
-use Rattle.process_table.proofs.Holding.{changes-home, keeps-parts}
-use Rattle.process_table.proofs.Starts.{its-program}
+use Rattle.world_rules.specs.declared.entry.Entry.TheVariants.{Take, Stall, Idle}
+use Rattle.world_rules.specs.Book.{Book, AddsEntry}
+use Rattle.world_rules.specs.World.{World, Out}
+use Rattle.world_rules.specs.Told.{told, IsTold}
+use Rattle.world_rules.specs.Time.{timed_processes}
+use Rattle.world_rules.specs.Lives.{Setting}
+use Rattle.world_rules.specs.Sound.{IsSound}
+use Rattle.node_state.specs.Seats.{Meaning, Seat, IsSeatOf}
+use Rattle.node_state.specs.Slots.{Slot, Nobody, Home, Asleep, Away, Fated, Gone, IsHome}
+use Rattle.node_state.specs.Held.{Held, StandsFor, kept_places}
+use Rattle.node_state.specs.Rows.{AllHaveRows}
+use Rattle.node_state.specs.Changes.{Records, TakesFront}
+use Rattle.node_laws.proofs.ReadyList.{true_is_not_false}
+use Rattle.node_laws.proofs.Programs.{KeepsSound, first-program, run-told}
+use Rattle.node_laws.proofs.Takes.{keeps-take, front-seat}
+use Rattle.node_laws.proofs.Ticks.{timed, untimed, first-timed}
+use Rattle.node_laws.proofs.Shown.{shown-taken, front-first}
+use Rattle.host_calls.specs.declared.proc.Proc.{Proc}
+use Rattle.host_calls.specs.Shown.{seat_of}
+use Rattle.process_table.specs.declared.letter.Letter.{Letter}
+use Rattle.process_table.specs.declared.place.Place.{Place}
+use Rattle.process_table.specs.declared.place.Place.TheVariants as PlaceIs
+use Rattle.process_table.specs.Seen.{Seen, seen, setting_of, world_of}
+use Rattle.process_table.specs.Holds.{Fields, NodeKeeps, held_of, slot_of, slot_in, mail_in}
+use Rattle.process_table.specs.Takes.{TakesProcess, TakesNothing, TakesOver, Stalls, RecordsEntry, IsBusy, IsIdle, IsTimed, IsStuckNode, away_in}
+use Rattle.process_table.proofs.Holding.{changes, mail-same, deadline-same, keeps-parts}
+use Rattle.process_table.proofs.Giving.{records-alone}
+use Rattle.process_table.proofs.EndingAll.{slot-read}
 
 -- The front of the ready list is handed out.
 
--- an entry that brings no end
-pub records-alone : (old new : Book) (entry : Entry) → AddsEntry old new entry → Records old new entry []
-records-alone old new entry adds = record {
-  entries = adds.entries;
-  births = adds.births;
-  ends_are = adds.ends ∙ sym (append-nil old.ends);
-  entry_room = adds.entry_room;
-}
+-- the place at home
+home_place : {E O P S L : Type 0} (place : Place E O P S L) (seat : Seat E) → slot_of place ≡ Home seat → (proc : Proc E O P S L) × (place ≡ PlaceIs.Home proc) × (seat_of proc ≡ seat)
+home_place PlaceIs.Nobody seat is = let h : ⊥ = cc in absurd h
+home_place (PlaceIs.Home proc) seat is = (proc, refl, let e : seat_of proc ≡ seat = cc in e)
+home_place (PlaceIs.Asleep proc ask) seat is = let h : ⊥ = cc in absurd h
+home_place (PlaceIs.Away worker) seat is = let h : ⊥ = cc in absurd h
+home_place (PlaceIs.Fated worker end) seat is = let h : ⊥ = cc in absurd h
+home_place PlaceIs.Gone seat is = let h : ⊥ = cc in absurd h
 
-seat_place : {E O P S L : Type 0} (place : Option (Option (Proc E O P S L))) (seat : Seat E) → seat_in place ≡ Some seat → (proc : Proc E O P S L) × (place ≡ Some (Some proc)) × (seat_of proc ≡ seat)
-seat_place None seat is = let h : ⊥ = cc in absurd h
-seat_place (Some None) seat is = let h : ⊥ = cc in absurd h
-seat_place (Some (Some proc)) seat is = (proc, refl, let e : seat_of proc ≡ seat = cc in e)
+-- the front of the list is process 1, which is at home
+record FrontHome {E O P S L : Type 0} (engines : Meaning E P) (setting : Setting P) (book : Book) (f : Fields E O P S L) (pid : ℕ) (place : Place E O P S L) : Type 0 where
+  pub one : pid ≡ 1
+  pub within : pid < length f.places
+  pub proc : Proc E O P S L
+  pub is : place ≡ PlaceIs.Home proc
+  pub home : IsHome engines setting.programs ((told book).process pid) (seat_of proc)
 
--- the process at home
-pub home-there : {E O P S L : Type 0} (homes : List (Option (Proc E O P S L))) (pid : ℕ) (seat : Seat E) → seat_in (slice_get homes pid) ≡ Some seat → (proc : Proc E O P S L) × (slice_get homes pid ≡ Some (Some proc)) × (seat_of proc ≡ seat) × (pid < length homes)
-home-there homes pid seat is =
-    let s = seat_place (slice_get homes pid) seat is in
-    (s.0, s.1, s.2, slice_get_within homes pid (Some s.0) s.1)
-
--- the front of the list is at home
-pub front-home : {E O P S L : Type 0} {engines : Meaning E P} {setting : Setting P} (book : Book) (homes : List (Option (Proc E O P S L))) (mail : List (List Letter)) (ready : List ℕ) (over : Bool) (sends out pid : ℕ) (rest : List ℕ) → StandsFor engines setting book (told book) (held_of homes ready over mail sends out) → ready ≡ pid ∷ rest → (proc : Proc E O P S L) × (slice_get homes pid ≡ Some (Some proc)) × IsSeatOf engines setting.programs ((told book).process pid) Running (seat_of proc) × (pid < length homes)
-front-home {engines = engines} {setting = setting} book homes mail ready over sends out pid rest stands front =
-    let s = front-seat book (held_of homes ready over mail sends out) pid rest stands front in
-    let h = home-there homes pid s.0 s.1 in
-    (h.0, h.1, subst (λ (seat : Seat _). IsSeatOf engines setting.programs ((told book).process pid) Running seat) (sym h.2) s.2, h.3)
-
-pub node-take : {E O P S L : Type 0} {engines : Meaning E P} (begin : P → Start → Option StartRefusal) (at : P → Start → List Call → ℕ → Option Standing) (programs : List P) (old new : Book) (live idle : ℕ) (homes homes_after : List (Option (Proc E O P S L))) (mail : List (List Letter)) (ready rest : List ℕ) (over : Bool) (sends out hn mn place place_after pid worker : ℕ)
-    → Keeps engines (setting_of begin at (seen programs old live idle)) old (held_of homes ready over mail sends out) hn mn place
-    → (told old).over ≡ false → away_in (told old) + 3 ≤ old.entry_room
-    → ready ≡ pid ∷ rest → homes_after ≡ slice_set homes pid None → place_after ≡ place
-    → AddsEntry old new (Take worker pid)
-    → Keeps engines (setting_of begin at (seen programs new live idle)) new (held_of homes_after rest over mail sends (out + 1)) hn mn place_after
-node-take {engines = engines} begin at programs old new live idle homes homes_after mail ready rest over sends out hn mn place place_after pid worker keeps going room front after same_place adds =
-    let was = held_of homes ready over mail sends out in
-    let is = held_of homes_after rest over mail sends (out + 1) in
-    let home = front-home old homes mail ready over sends out pid rest keeps.stands front in
-    let takes : TakesFront was is pid = record { front = front; change = changes-home homes homes_after mail pid None ready rest over over sends sends out (out + 1) home.3 after; over = refl; sends = refl; out = refl } in
-    let enough : out + 3 ≤ old.entry_room = let o = keeps.stands.out in omega arith in
-    let stands = keeps-take old new was is pid worker keeps.stands (sym keeps.stands.over ∙ going) takes (records-alone old new (Take worker pid) adds) enough in
-    let fewer : length rest + (out + 1) ≤ place_after = let f = ap (λ (xs : List ℕ). length xs) front in let p = keeps.places in omega (arith, same_place) in
-    keeps-parts begin at programs old new live idle is hn mn place_after adds.births stands keeps.homes_are keeps.mailboxes_are fewer
-
-pub shows-take : {E O P S L : Type 0} (engines : Meaning E P) (may_ask : P → ℕ → Type 0) (begin : P → Start → Option StartRefusal) (at : P → Start → List Call → ℕ → Option Standing) (programs : List P) (old new : Book) (live idle : ℕ) (homes : List (Option (Proc E O P S L))) (mail : List (List Letter)) (ready rest : List ℕ) (over : Bool) (sends out pid worker : ℕ) (place : Option (Proc E O P S L)) (proc : Proc E O P S L)
-    → StandsFor engines (setting_of begin at (seen programs old live idle)) old (told old) (held_of homes ready over mail sends out)
-    → AllHaveRows may_ask programs → (told old).over ≡ false
-    → ready ≡ pid ∷ rest → place ≡ get_or homes pid place → place ≡ Some proc
-    → AddsEntry old new (Take worker pid)
-    → TakesProcess engines may_ask (seen programs old live idle) (seen programs new live idle) worker (seat_of proc)
-shows-take engines may_ask begin at programs old new live idle homes mail ready rest over sends out pid worker place proc stands rows going front there is adds =
-    let w : World = told old in
-    let home = front-home old homes mail ready over sends out pid rest stands front in
-    let found : place ≡ Some home.0 = there ∙ get_or_from_slice_get homes pid (Some home.0) place home.1 in
-    let same : home.0 ≡ proc = let e : Some home.0 ≡ Some proc = sym found ∙ is in cc in
-    let first = front-first old (held_of homes ready over mail sends out) pid rest stands front in
-    let numbered : proc.start.pid ≡ pid = ap (λ (x : Proc _ _ _ _ _). x.start.pid) (sym same) ∙ ap (λ (s : Start). s.pid) home.2.start ∙ first.1 in
-    let started : proc.start ≡ (w.process pid).start = ap (λ (x : Proc _ _ _ _ _). x.start) (sym same) ∙ home.2.start in
-    let there = its-program (setting_of begin at (seen programs old live idle)) old pid stands.run in
-    let named : slice_get programs proc.start.«module» ≡ Some there.0 = ap (λ (s : Start). slice_get programs s.«module») started ∙ there.1 in
-    let shown = shown-taken engines programs old new pid worker (seat_of home.0) home.2 (records-alone old new (Take worker pid) adds) in
+front_home : {E O P S L : Type 0} {engines : Meaning E P} {may_ask : P → ℕ → Type 0} {setting : Setting P} (book : Book) (f : Fields E O P S L) (pid : ℕ) (rest : List ℕ) (place : Place E O P S L)
+    → NodeKeeps engines may_ask setting book f → f.queue.ready ≡ pid ∷ rest → place ≡ get_or f.places pid place → FrontHome engines setting book f pid place
+front_home {engines = engines} {setting = setting} book f pid rest place keeps front there =
+    let s = front-seat book (held_of f) pid rest keeps.stands front in
+    let first = front-first book (held_of f) pid rest keeps.stands front in
+    let one : pid ≡ 1 = first.0 in
+    let p = keeps.places in
+    let within : pid < length f.places = omega (arith, p, one) in
+    let h = home_place place s.0 (sym (slot-read f.places pid place within there) ∙ s.1) in
     record {
-      going = going;
-      front = ap (λ (xs : List ℕ). slice_get xs 0) (stands.ready.same ∙ front) ∙ ap Some (sym numbered);
-      recorded = subst (λ (k : ℕ). Records old new (Take worker k) []) (sym numbered) (records-alone old new (Take worker pid) adds);
-      seated = subst (λ (k : ℕ). IsSeatOf engines programs ((told new).process k) Running (seat_of proc)) (sym numbered) (subst (λ (x : Proc _ _ _ _ _). IsSeatOf engines programs ((told new).process pid) Running (seat_of x)) same shown.0);
-      out = subst (λ (k : ℕ). ((told new).process k).stage ≡ Out worker) (sym numbered) shown.1;
-      program = there.0;
-      found = named;
-      rows = rows proc.start.«module» there.0 named;
+      one = one;
+      within = within;
+      proc = h.0;
+      is = h.1;
+      home = subst (λ (seat : Seat _). IsHome engines setting.programs ((told book).process pid) seat) (sym h.2) s.2;
     }
 
-pub no-home : {E O P S L : Type 0} (engines : Meaning E P) (setting : Setting P) (book : Book) (homes : List (Option (Proc E O P S L))) (mail : List (List Letter)) (ready rest : List ℕ) (over : Bool) (sends out pid : ℕ) (place : Option (Proc E O P S L)) → StandsFor engines setting book (told book) (held_of homes ready over mail sends out) → ready ≡ pid ∷ rest → place ≡ get_or homes pid place → place ≡ None → ⊥
-no-home engines setting book homes mail ready rest over sends out pid place stands front there is =
-    let home = front-home book homes mail ready over sends out pid rest stands front in
-    let found : place ≡ Some home.0 = there ∙ get_or_from_slice_get homes pid (Some home.0) place home.1 in
-    let e : None ≡ Some home.0 = sym is ∙ found in
-    cc
+pub front-within : {E O P S L : Type 0} {engines : Meaning E P} {may_ask : P → ℕ → Type 0} {setting : Setting P} (book : Book) (f : Fields E O P S L) (pid : ℕ) (rest : List ℕ)
+    → NodeKeeps engines may_ask setting book f → f.queue.ready ≡ pid ∷ rest → pid < length f.places
+front-within book f pid rest keeps front =
+    let first = front-first book (held_of f) pid rest keeps.stands front in
+    let one : pid ≡ 1 = first.0 in
+    let p = keeps.places in
+    omega (arith, p, one)
 
-pub nil-is : (xs : List ℕ) → length xs ≡ 0 → xs ≡ []
-nil-is [] e = refl
-nil-is (x ∷ xs) e = let h : ⊥ = grind arith in absurd h
+room_taken : (out room spare : ℕ) (over : Bool) → over ≡ false → 2 ≤ spare → spare ≡ room - kept_places out over → out + 3 ≤ room
+room_taken out room spare true is most e = let h : ⊥ = cc in absurd h
+room_taken out room spare false is most e = omega (arith, most, e)
+
+pub node-take : {E O P S L : Type 0} {engines : Meaning E P} {may_ask : P → ℕ → Type 0} (begin : P → Start → Option StartRefusal) (at : P → Start → List Call → ℕ
+    → Option Standing) (programs : List P) (old new : Book) (live idle spare : ℕ) (f g : Fields E O P S L) (pid worker : ℕ)
+    → NodeKeeps engines may_ask (setting_of begin at (seen programs old live idle 0)) old f
+    → f.over ≡ false → 2 ≤ spare → spare ≡ old.entry_room - kept_places f.out f.over
+    → f.queue.ready ≡ pid ∷ g.queue.ready → g.places ≡ slice_set f.places pid (PlaceIs.Away worker)
+    → g.mail ≡ f.mail → g.queue.deadlines ≡ f.queue.deadlines → g.queue.room ≡ f.queue.room
+    → g.sends ≡ f.sends → g.time ≡ f.time → g.row ≡ f.row → g.out ≡ f.out + 1 → g.over ≡ f.over
+    → AddsEntry old new (Take worker pid)
+    → NodeKeeps engines may_ask (setting_of begin at (seen programs new live idle 0)) new g
+node-take {engines = engines} begin at programs old new live idle spare f g pid worker keeps going most spare_is front places_are mail_is deadlines_are room_is sends time row out over adds =
+    let was = held_of f in
+    let is = held_of g in
+    let within = front-within old f pid g.queue.ready keeps front in
+    let takes : TakesFront was is pid worker = record {
+      front = front;
+      change = changes f g pid (PlaceIs.Away worker) (was.mail pid) (was.deadlines pid) within places_are
+          (rw mail_is (mail-same f.mail pid)) (deadline-same f.queue.deadlines g.queue.deadlines pid (was.deadlines pid) deadlines_are refl);
+      counts = record { sends_are = sends; time_is = time; row_is = row; over = over };
+      out = out;
+    } in
+    let stands = keeps-take old new was is pid worker keeps.stands going takes (records-alone old new (Take worker pid) adds) (room_taken f.out old.entry_room spare f.over going most spare_is) in
+    let fewer : length f.queue.ready ≡ 1 + length g.queue.ready = ap (λ (xs : List ℕ). length xs) front ∙ omega arith in
+    keeps-parts begin at programs old new live idle f g keeps adds.births stands
+    (ap (λ (xs : List (Place _ _ _ _ _)). length xs) places_are ∙ length-set f.places pid (PlaceIs.Away worker))
+    (ap (λ (xs : List (Mail Letter)). length xs) mail_is) room_is
+    (omega (arith, fewer, out))
+
+-- what a worker is handed
+pub shows-take : {E O P S L : Type 0} (engines : Meaning E P) (may_ask : P → ℕ → Type 0) → KeepsSound → (begin : P → Start → Option StartRefusal) (at : P → Start → List Call → ℕ
+    → Option Standing) (programs : List P) (old new : Book) (live idle spare spare_after : ℕ) (f : Fields E O P S L) (pid worker : ℕ) (rest : List ℕ) (place : Place E O P S L) (proc : Proc E O P S L)
+    → NodeKeeps engines may_ask (setting_of begin at (seen programs old live idle 0)) old f
+    → f.over ≡ false → f.row < idle
+    → f.queue.ready ≡ pid ∷ rest → place ≡ get_or f.places pid place → place ≡ PlaceIs.Home proc
+    → AddsEntry old new (Take worker pid)
+    → TakesProcess engines may_ask (seen programs old live idle spare) (seen programs new live idle spare_after) worker (seat_of proc)
+shows-take engines may_ask k begin at programs old new live idle spare spare_after f pid worker rest place proc keeps going busy front there is adds =
+    let w : World = told old in
+    let setting = setting_of begin at (seen programs old live idle 0) in
+    let m = keeps.stands.mirrors in
+    let h = front_home old f pid rest place keeps front there in
+    let same : h.proc ≡ proc = let e : PlaceIs.Home h.proc ≡ PlaceIs.Home proc = sym h.is ∙ is in cc in
+    let home : IsHome engines programs (w.process pid) (seat_of proc) = subst (λ (x : Proc _ _ _ _ _). IsHome engines programs (w.process pid) (seat_of x)) same h.home in
+    let first = front-first old (held_of f) pid rest keeps.stands front in
+    let numbered : proc.start.pid ≡ pid = ap (λ (s : Start). s.pid) home.seated.start ∙ first.1 in
+    let its = first-program k setting old keeps.stands.run in
+    let named : slice_get programs proc.start.«module» ≡ Some its.0 =
+    ap (λ (s : Start). slice_get programs s.«module») (home.seated.start ∙ ap (λ (k : ℕ). (w.process k).start) h.one) ∙ its.1 in
+    let records = records-alone old new (Take worker pid) adds in
+    let shown = shown-taken engines programs old new pid worker (seat_of proc) home records in
+    record {
+      going = m.over ∙ going;
+      busy = rw m.row busy;
+      front = ap (λ (xs : List ℕ). slice_get xs 0) (m.ready.same ∙ front) ∙ ap Some (sym numbered);
+      recorded = subst (λ (k : ℕ). Records old new (Take worker k) []) (sym numbered) records;
+      seated = subst (λ (k : ℕ). IsSeatOf engines programs ((told new).process k) Running (seat_of proc)) (sym numbered) shown.0;
+      out = subst (λ (k : ℕ). ((told new).process k).stage ≡ Out worker) (sym numbered) shown.1;
+      own = subst (λ (k : ℕ). ((told new).process k).owed ≡ None) (sym numbered) shown.2;
+      program = its.0;
+      found = named;
+      rows = keeps.rows proc.start.«module» its.0 named;
+    }
+
+-- the front isn't elsewhere
+pub no-home : {E O P S L : Type 0} {engines : Meaning E P} {may_ask : P → ℕ → Type 0} {setting : Setting P} (book : Book) (f : Fields E O P S L) (pid : ℕ) (rest : List ℕ) (place : Place E O P S L)
+    → NodeKeeps engines may_ask setting book f → f.queue.ready ≡ pid ∷ rest → place ≡ get_or f.places pid place → ((proc : Proc E O P S L) → place ≡ PlaceIs.Home proc → ⊥) → ⊥
+no-home book f pid rest place keeps front there other =
+    let h = front_home book f pid rest place keeps front there in
+    other h.proc h.is
+
+-- DEADLINES
+
+some_of : (o : Option ℕ) → IsSome o → (d : ℕ) × (o ≡ Some d)
+some_of None some = let h : ⊥ = cc in absurd h
+some_of (Some d) some = (d, refl)
+
+none_of : (o : Option ℕ) → (IsSome o → ⊥) → o ≡ None
+none_of None none = refl
+none_of (Some d) none = absurd (none refl)
+
+-- somebody has a deadline, and so process 1 waits with one
+pub is-timed : {E O P S L : Type 0} {engines : Meaning E P} {may_ask : P → ℕ → Type 0} {setting : Setting P} → ((book : Book) → IsTold book → IsSound (told book))
+    → (book : Book) (f : Fields E O P S L) → NodeKeeps engines may_ask setting book f → (pid : ℕ) × IsSome (get f.queue.deadlines pid) → IsTimed (told book)
+is-timed {setting = setting} tells book f keeps some =
+    let sound = tells book (run-told setting book keeps.stands.run) in
+    let d = some_of (get f.queue.deadlines some.0) some.1 in
+    let one : some.0 ≡ 1 = first-timed book (held_of f) some.0 d.0 sound keeps.stands d.1 in
+    let here : get f.queue.deadlines 1 ≡ Some d.0 = subst (λ (k : ℕ). get f.queue.deadlines k ≡ Some d.0) one d.1 in
+    rw (timed book (held_of f) d.0 sound keeps.stands here) (omega arith)
+
+-- nobody has a deadline, and so nobody waits with one
+pub is-untimed : {E O P S L : Type 0} {engines : Meaning E P} {may_ask : P → ℕ → Type 0} {setting : Setting P} (book : Book) (f : Fields E O P S L) → NodeKeeps engines may_ask setting book f
+    → ((pid : ℕ) × IsSome (get f.queue.deadlines pid) → ⊥) → timed_processes (told book) ≡ []
+is-untimed book f keeps none = untimed book (held_of f) keeps.stands (none_of (get f.queue.deadlines 1) (λ some. none (1, some)))
+
+-- OVER
+
+-- a take that ends an idle run
+pub takes-idle : {P : Type 0} (old new : Seen P) (worker : ℕ) → (world_of old).over ≡ false → IsIdle old → (world_of new).over ≡ true → RecordsEntry old.book new.book (Idle worker)
+    → TakesOver old new worker
+takes-idle old new worker going idle over recorded = record {
+  over = over;
+  was_over = λ o. true_is_not_false (sym o ∙ going);
+  idles = λ _ _. recorded;
+  stalls = λ _ busy. let h : ⊥ = omega (arith, idle, busy) in absurd h;
+}
 
 -- a take that stalls
-pub takes-over : {E P : Type 0} {engines : Meaning E P} {setting : Setting P} (old new : Seen P) (held : Held E) (worker : ℕ) → StandsFor engines setting old.book (told old.book) held → held.over ≡ false → length held.ready ≡ 0 → held.out ≤ 0 → (told new.book).over ≡ true → RecordsEntry old.book new.book (Stall worker) → TakesOver old new worker
-takes-over old new held worker stands going empty none over recorded = record {
+pub takes-stall : {P : Type 0} (old new : Seen P) (worker : ℕ) → (world_of old).over ≡ false → IsBusy old → IsStuckNode (world_of old) → (world_of new).over ≡ true
+    → RecordsEntry old.book new.book (Stall worker) → TakesOver old new worker
+takes-stall old new worker going busy stuck over recorded = record {
   over = over;
-  was_over = λ o. true_is_not_false (sym o ∙ stands.over ∙ going);
-  was_going = λ _. record {
-    none_ready = stands.ready.same ∙ nil-is held.ready empty;
-    away = let o = stands.out in omega arith;
-    recorded = recorded;
-  };
+  was_over = λ o. true_is_not_false (sym o ∙ going);
+  idles = λ _ idle. let h : ⊥ = omega (arith, idle, busy) in absurd h;
+  stalls = λ _ _. record { busy = busy; none_ready = stuck.none_ready; away = stuck.away; untimed = stuck.untimed; recorded = recorded };
 }
+
+-- a take of a run that is over
+pub takes-over : {P : Type 0} (old : Seen P) (worker : ℕ) → (world_of old).over ≡ true → TakesOver old old worker
+takes-over old worker over = record {
+  over = over;
+  was_over = λ _. refl;
+  idles = λ going idle. true_is_not_false (sym over ∙ going);
+  stalls = λ going busy. true_is_not_false (sym over ∙ going);
+}
+
+-- THE QUEUE WAS READ
+
+same_queue : (a b : Schedule) → b.ready ≡ a.ready → b.deadlines ≡ a.deadlines → b.room ≡ a.room → a ≡ b
+same_queue a b ready deadlines room = λ i. record { ready = sym ready i; deadlines = sym deadlines i; room = sym room i }
+
+-- a node whose queue is another with the same content
+pub keeps-queue : {E O P S L : Type 0} {engines : Meaning E P} {may_ask : P → ℕ → Type 0} {setting : Setting P} (book : Book) (f : Fields E O P S L) (queue : Schedule)
+    → NodeKeeps engines may_ask setting book f
+    → queue.ready ≡ f.queue.ready → queue.deadlines ≡ f.queue.deadlines → queue.room ≡ f.queue.room → NodeKeeps engines may_ask setting book (record f { queue = queue })
+keeps-queue {engines = engines} {may_ask = may_ask} {setting = setting} book f queue keeps ready deadlines room =
+    subst (λ (q : Schedule). NodeKeeps engines may_ask setting book (record f { queue = q })) (same_queue f.queue queue ready deadlines room) keeps
+
+-- while somebody is ready no worker has a process
+pub none-out : {E O P S L : Type 0} {engines : Meaning E P} {may_ask : P → ℕ → Type 0} {setting : Setting P} (book : Book) (f : Fields E O P S L) (pid : ℕ) (rest : List ℕ)
+    → NodeKeeps engines may_ask setting book f → f.queue.ready ≡ pid ∷ rest → f.out ≡ 0
+none-out book f pid rest keeps front = (front-first book (held_of f) pid rest keeps.stands front).2
+
+-- nothing is ready, and the run goes on
+pub takes-nothing : {E O P S L : Type 0} {engines : Meaning E P} {may_ask : P → ℕ → Type 0} (begin : P → Start → Option StartRefusal) (at : P → Start → List Call → ℕ
+    → Option Standing) (programs : List P) (book : Book) (live idle spare spare_after : ℕ) (f : Fields E O P S L)
+    → NodeKeeps engines may_ask (setting_of begin at (seen programs book live idle 0)) book f → f.over ≡ false → f.row < idle → f.queue.ready ≡ []
+    → ∥ (0 < f.out) ⊎ IsTimed (told book) ∥₁ → TakesNothing (seen programs book live idle spare) (seen programs book live idle spare_after)
+takes-nothing begin at programs book live idle spare spare_after f keeps going busy none awaits =
+    let m = keeps.stands.mirrors in
+    record {
+      going = m.over ∙ going;
+      busy = rw m.row busy;
+      none_ready = m.ready.same ∙ none;
+      awaits = subst (λ (n : ℕ). ∥ (0 < n) ⊎ IsTimed (told book) ∥₁) (sym m.out) awaits;
+      same = refl;
+    }
+
+zero_is : (n : ℕ) → n ≤ 0 → n ≡ 0
+zero_is n h = omega (arith, h)
+
+-- nothing can happen any more
+pub is-stuck : {E O P S L : Type 0} {engines : Meaning E P} {may_ask : P → ℕ → Type 0} {setting : Setting P} (book : Book) (f : Fields E O P S L) (b : Bool)
+    → NodeKeeps engines may_ask setting book f → f.queue.ready ≡ [] → f.out ≤ 0
+    → IsTrue b ↔ ((pid : ℕ) × IsSome (get f.queue.deadlines pid)) → b ≡ false → IsStuckNode (told book)
+is-stuck book f b keeps none out timed_is untimed_is =
+    let m = keeps.stands.mirrors in
+    record {
+      none_ready = m.ready.same ∙ none;
+      away = m.out ∙ zero_is f.out out;
+      untimed = is-untimed book f keeps (λ some. true_is_not_false (sym (timed_is.1 some) ∙ untimed_is));
+    }

@@ -1,25 +1,29 @@
-use Rattle.std.specs.Prelude.{◌≡◌, ◌⊎◌, ◌<◌, ℕ, ◌+◌, ◌≤◌, List, [], ◌∷◌, ◌++◌, Option, Some, true, false, slice_get}
+use Rattle.std.specs.Prelude.{◌≡◌, ◌⊎◌, ◌<◌, ◌≤◌, ℕ, ◌+◌, List, [], ◌∷◌, length, slice_get}
+use Rattle.std.specs.Prelude.{Option, Some, None, IfSome, true, false}
 use Rattle.host_port.specs.declared.call.Call.{Call}
 use Rattle.host_port.specs.declared.start.Start.{Start}
 use Rattle.host_port.specs.Standing.{Running}
-use Rattle.journal.specs.declared.life.Birth.TheVariants.{Born}
-use Rattle.journal.specs.declared.entry.Entry.{Entry}
-use Rattle.journal.specs.declared.entry.Entry.TheVariants as EntryIs
-use Rattle.journal.specs.declared.entry.Side.{Side}
-use Rattle.journal.specs.declared.entry.Side.TheVariants as SideIs
-use Rattle.journal.specs.declared.halt.Halt.{Halt}
-use Rattle.journal.specs.declared.life.Ended.{Ended as EndMemory}
-use Rattle.journal.specs.Book.{Book}
-use Rattle.journal.specs.World.{World, Out}
-use Rattle.world_laws.specs.Seats.{Meaning, Seat, IsSeatOf}
-use Rattle.world_laws.specs.Stands.{away_count}
-use Rattle.world_laws.specs.Fits.{IsLastAt}
-use Rattle.world_laws.specs.Changes.{Records}
-use Rattle.process_table.specs.declared.process.Taken.{Taken}
-use Rattle.process_table.specs.declared.process.Taken.TheVariants as TakenIs
+use Rattle.world_rules.specs.declared.life.Birth.TheVariants.{Born}
+use Rattle.world_rules.specs.declared.life.Ended.{Ended as EndMemory}
+use Rattle.world_rules.specs.declared.entry.Entry.{Entry}
+use Rattle.world_rules.specs.declared.entry.Entry.TheVariants as EntryIs
+use Rattle.world_rules.specs.declared.entry.Side.{Side}
+use Rattle.world_rules.specs.declared.entry.Side.TheVariants as SideIs
+use Rattle.world_rules.specs.declared.halt.End.{End}
+use Rattle.world_rules.specs.declared.halt.End.TheVariants as EndIs
+use Rattle.world_rules.specs.declared.halt.Halt.{Halt}
+use Rattle.world_rules.specs.Book.{Book}
+use Rattle.world_rules.specs.World.{World, Out}
+use Rattle.world_rules.specs.Time.{timed_processes}
+use Rattle.node_state.specs.Seats.{Meaning, Seat, IsSeatOf}
+use Rattle.node_state.specs.Slots.{Slot, Nobody, Home, Asleep, Away, Fated, Gone}
+use Rattle.node_state.specs.Held.{away_count}
+use Rattle.node_state.specs.Changes.{Records}
+use Rattle.node_state.specs.Rows.{HasRows}
+use Rattle.host_calls.specs.Shown.{seat_of}
+use Rattle.process_table.specs.declared.taken.Taken.{Taken}
+use Rattle.process_table.specs.declared.taken.Taken.TheVariants as TakenIs
 use Rattle.process_table.specs.Seen.{Seen, world_of}
-use Rattle.process_table.specs.Rows.{HasRows}
-use Rattle.process_table.specs.Holds.{seat_of}
 
 -- What the calls of a node answer and record.
 
@@ -30,13 +34,36 @@ pub record SameTerms {P : Type 0} (old new : Seen P) : Type 0 where
   pub idle : new.idle ≡ old.idle
   pub births : new.book.births ≡ old.book.births
 
--- how many processes a worker has
+-- how many processes workers have
 abbrev pub away_in : World → ℕ
 away_in w = away_count w.process w.numbers_drawn
 
--- room is reserved for a take and its give, beside what stays reserved for those that are out and for Starve
-abbrev pub IsReserved : {P : Type 0} → Seen P → Type 0
-IsReserved node = away_in (world_of node) + 3 ≤ node.book.entry_room
+-- somebody waits with a deadline
+abbrev pub IsTimed : World → Type 0
+IsTimed w = 0 < length (timed_processes w)
+
+-- nothing is ready, no worker has a process, and nobody waits with a deadline
+pub record IsStuckNode (w : World) : Type 0 where
+  pub none_ready : w.ready ≡ []
+  pub away : away_in w ≡ 0
+  pub untimed : timed_processes w ≡ []
+
+-- the run was idle for as long as it may be
+abbrev pub IsIdle : {P : Type 0} → Seen P → Type 0
+IsIdle node = node.idle ≤ (world_of node).row
+
+abbrev pub IsBusy : {P : Type 0} → Seen P → Type 0
+IsBusy node = (world_of node).row < node.idle
+
+-- these entries may end all, with these ends: where nothing is ready, no worker has a process and nobody waits with a
+-- deadline; where the run was idle for too long; and for want of memory
+abbrev pub MayEndAll : {P : Type 0} → Seen P → Entry → End → Type 0
+MayEndAll node (EntryIs.Take worker pid) end = ⊥
+MayEndAll node (EntryIs.Give worker pid calls fuel halt side) end = ⊥
+MayEndAll node (EntryIs.Tick worker now) end = ⊥
+MayEndAll node (EntryIs.Stall worker) end = (end ≡ EndIs.Stalled) × IsStuckNode (world_of node)
+MayEndAll node (EntryIs.Idle worker) end = (end ≡ EndIs.Idle) × IsIdle node
+MayEndAll node (EntryIs.Starve worker) end = end ≡ EndIs.NoMemory
 
 -- exactly this entry was recorded, with the ends that it brought
 abbrev pub RecordsEntry : Book → Book → Entry → Type 0
@@ -48,55 +75,64 @@ pub record BeginsWith (start : Start) (book : Book) : Type 0 where
   pub entries : book.entries ≡ []
   pub ends : book.ends ≡ []
 
--- an entry that ends all may come: a Stall where nothing is ready and no worker has a process; a Starve always
-abbrev pub MayEndAll : World → Entry → Type 0
-MayEndAll w (EntryIs.Take worker pid) = ⊥
-MayEndAll w (EntryIs.Give worker pid calls fuel halt side) = ⊥
-MayEndAll w (EntryIs.Stall worker) = (w.ready ≡ []) × (away_in w ≡ 0)
-MayEndAll w (EntryIs.Starve worker) = Unit {0}
+-- TICK. Exactly a Tick was recorded, with the time that the clock told, where it tells one.
+pub record Ticks {P : Type 0} (old new : Seen P) (worker : ℕ) (clock : Option ℕ) : Type 0 where
+  pub now : ℕ
+  pub told : IfSome clock (λ time. now ≡ time)
+  pub recorded : Records old.book new.book (EntryIs.Tick worker now) []
+  pub spare : new.spare + 1 ≡ old.spare
 
--- the ends have what is kept of the process of this number more, where it was at home
-pub record AddsLast {E P : Type 0} (engines : Meaning E P) (pid : ℕ) (seat : Option (Seat E)) (old new : Book) : Type 0 where
-  pub more : List EndMemory
-  pub last : IsLastAt engines pid seat more
-  pub ends : new.ends ≡ old.ends ++ more
-  pub entries : new.entries ≡ old.entries
-  pub births : new.births ≡ old.births
-  pub entry_room : new.entry_room ≡ old.entry_room
-
--- The process at the front of the ready list is handed out, as the journal leaves it, and a Take is recorded. The program that its
--- start names is there, and asks only calls that have a row.
-pub record TakesProcess {E P : Type 0} (engines : Meaning E P) (may_ask : P → ℕ → Type 0) (old new : Seen P) (worker : ℕ) (seat : Seat E) : Type 0 where
+-- The process at the front of the ready list is handed out, as the journal leaves it, and a Take is recorded; its Give
+-- has a place. The program that its start names is there, and asks only calls that have a row.
+pub record TakesProcess {E P : Type 0} (engines : Meaning E P) (may_ask : P → ℕ → Type 0) (old new : Seen P)
+    (worker : ℕ) (seat : Seat E) : Type 0 where
   pub going : (world_of old).over ≡ false
+  pub busy : IsBusy old
   pub front : slice_get (world_of old).ready 0 ≡ Some seat.start.pid
   pub recorded : Records old.book new.book (EntryIs.Take worker seat.start.pid) []
   pub seated : IsSeatOf engines old.programs ((world_of new).process seat.start.pid) Running seat
   pub out : ((world_of new).process seat.start.pid).stage ≡ Out worker
+  pub own : ((world_of new).process seat.start.pid).owed ≡ None
   pub program : P
   pub found : slice_get old.programs seat.start.«module» ≡ Some program
   pub rows : HasRows may_ask program
 
--- nothing is ready, but a worker has a process, so the run isn't stuck; nothing is recorded
+-- nothing is ready, but a worker has a process, or somebody waits with a deadline; nothing is recorded
 pub record TakesNothing {P : Type 0} (old new : Seen P) : Type 0 where
   pub going : (world_of old).over ≡ false
+  pub busy : IsBusy old
   pub none_ready : (world_of old).ready ≡ []
-  pub away : 0 < away_in (world_of old)
+  pub awaits : ∥ (0 < away_in (world_of old)) ⊎ IsTimed (world_of old) ∥₁
   pub same : new.book ≡ old.book
 
 -- the run was stuck, and a Stall is recorded
 pub record Stalls {P : Type 0} (old new : Seen P) (worker : ℕ) : Type 0 where
+  pub busy : IsBusy old
   pub none_ready : (world_of old).ready ≡ []
   pub away : away_in (world_of old) ≡ 0
+  pub untimed : timed_processes (world_of old) ≡ []
   pub recorded : RecordsEntry old.book new.book (EntryIs.Stall worker)
 
--- the run is over: it was over, and nothing is recorded, or it is now by a Stall
+-- the run is over: it was over, and nothing is recorded; or it is now, by an Idle where the run was idle for too long,
+-- else by a Stall
 pub record TakesOver {P : Type 0} (old new : Seen P) (worker : ℕ) : Type 0 where
   pub over : (world_of new).over ≡ true
   pub was_over : (world_of old).over ≡ true → new.book ≡ old.book
-  pub was_going : (world_of old).over ≡ false → Stalls old new worker
+  pub idles : (world_of old).over ≡ false → IsIdle old → RecordsEntry old.book new.book (EntryIs.Idle worker)
+  pub stalls : (world_of old).over ≡ false → IsBusy old → Stalls old new worker
+
+-- a worker has the process, which is doomed
+abbrev pub IsFatedSlot : {E : Type 0} → Slot E → Type 0
+IsFatedSlot Nobody = ⊥
+IsFatedSlot (Home seat) = ⊥
+IsFatedSlot (Asleep seat ask) = ⊥
+IsFatedSlot (Away worker) = ⊥
+IsFatedSlot (Fated worker end) = Unit {0}
+IsFatedSlot Gone = ⊥
 
 -- what a take answers
-abbrev pub IsTaken : {E O P S L : Type 0} → Meaning E P → (P → ℕ → Type 0) → Seen P → Seen P → ℕ → Taken E O P S L → Type 0
+abbrev pub IsTaken : {E O P S L : Type 0} → Meaning E P → (P → ℕ → Type 0) → Seen P → Seen P → ℕ → Taken E O P S L
+    → Type 0
 IsTaken engines may_ask old new worker (TakenIs.Proc proc) = TakesProcess engines may_ask old new worker (seat_of proc)
 IsTaken engines may_ask old new worker TakenIs.Nothing = TakesNothing old new
 IsTaken engines may_ask old new worker TakenIs.Over = TakesOver old new worker

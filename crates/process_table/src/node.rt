@@ -1,103 +1,131 @@
-ghost use Rattle.std.specs.Prelude.{◌≡◌, ◌≢◌, ℕ, ◌<◌, List, [], ◌∷◌, IfOk, IfErr, OnOk, Some, None, map, slice_get, length, true};
+ghost use Rattle.std.specs.Prelude.{◌≡◌, ◌≢◌, ◌<◌, ◌≤◌, List, [], ◌∷◌, IfOk, IfErr, OnOk, Some, None};
+ghost use Rattle.std.specs.Prelude.{map, slice_get, length, true};
 ghost use Rattle.std.specs.Arc.{arc_value};
-ghost use Rattle.std.specs.VecDeque.{deque_capacity};
+ghost use Rattle.std.specs.FinMap.{empty};
 ghost use Rattle.host_port.specs.declared.start.StartRefusal.TheVariants.{NoMemory as NoMemoryLeft};
-ghost use Rattle.journal.specs.Book.{KeepsAll};
-ghost use Rattle.journal.specs.Lives.{IsRun};
+ghost use Rattle.world_rules.specs.Book.{KeepsAll};
+ghost use Rattle.world_rules.specs.Lives.{IsRun};
+ghost use Rattle.node_state.specs.Rows.{AllHaveRows};
+ghost use Rattle.process_table.specs.declared.place.Place.TheVariants.{Nobody, Home};
 ghost use Rattle.process_table.specs.Seen.{setting_of, world_of};
-ghost use Rattle.process_table.specs.Rows.{AllHaveRows};
-ghost use Rattle.process_table.specs.Takes.{SameTerms, IsReserved, BeginsWith, away_in};
+ghost use Rattle.process_table.specs.Holds.{letters_in};
+ghost use Rattle.process_table.specs.Takes.{SameTerms, BeginsWith, away_in};
 
+mod ask;
 mod give;
 mod take;
+mod tick;
 
-use crate::{Letter, Proc};
+use crate::Letter;
+use crate::place::Place;
+use host_calls::Proc;
 use host_port::{Engine, Start, StartRefusal};
-use journal::{Birth, Journal};
+use journal::Journal;
 use memory_refusal::NoMemory;
 use outside::Outside;
+use run_queue::Queue;
 use std::alloc::Global;
-use std::collections::VecDeque;
-use std::marker::{Model, PhantomData};
+use std::marker::Model;
 use std::sync::Arc;
+use tagged_mailbox::Mailbox;
+use world_rules::Birth;
 
 /// One state of all processes, with its journal.
 ///
-/// After every call the journal is a run: each process at home is its program's run on its own
-/// start and replies, and each reply is the one-thread world's.
+/// After every call the journal is a run: each process at home is its program's run on its own start and replies, and
+/// each reply is the one-thread world's.
 #[derive(Drop)]
 pub struct Node<E: Engine, O: Outside> {
+    alloc: Global,
     programs: Vec<Arc<E::Program>>,
     live: u32,
     idle: u64,
     journal: Journal,
-    /// The process of each number, where it is at home.
-    homes: Vec<Option<Proc<E, O>>>,
+    /// What stands at each number.
+    places: Vec<Place<E, O>>,
     /// The mailbox of each number.
-    mail: Vec<Vec<Letter>>,
-    /// The numbers of the processes that are ready, the front first.
-    ready: VecDeque<u64>,
+    mail: Vec<Mailbox<Letter>>,
+    /// The processes that are ready, and the deadlines of those that wait.
+    queue: Queue,
     /// How many sends were answered 0.
     sends: u64,
+    /// The time in milliseconds.
+    time: u64,
+    /// How many early Ticks the last entries are, Takes left aside.
+    row: u64,
     /// How many processes a worker has.
     out: u32,
     over: bool,
 }
 
 impl<E: Engine, O: Outside> Model for Node<E, O> {
-    ghost use Rattle.std.specs.Prelude.{map, vec_len};
+    ghost use Rattle.std.specs.Prelude.{◌-◌, map};
     ghost use Rattle.std.specs.Arc.{arc_value};
-    ghost use Rattle.std.specs.VecDeque.{deque_capacity};
-    ghost use Rattle.world_laws.specs.Seats.{meaning};
+    ghost use Rattle.node_state.specs.Seats.{meaning};
+    ghost use Rattle.node_state.specs.Held.{kept_places};
     ghost use Rattle.process_table.specs.Seen.{Seen, seen, setting_of};
-    ghost use Rattle.process_table.specs.Holds.{NodeKeeps, held_of};
+    ghost use Rattle.process_table.specs.Holds.{NodeKeeps};
 
     ghost Value = { Seen E.Program };
 
-    ghost view = { λ a. seen (map arc_value a.programs.items) a.journal a.live a.idle };
+    ghost view = { λ a.
+        seen (map arc_value a.programs.items) a.journal a.live a.idle
+        (a.journal.entry_room - kept_places a.out a.over) };
 
     ghost invariant = { λ a.
         NodeKeeps (meaning E.stands E.phase E.memory) E.may_ask
-        (setting_of E.begin E.at (seen (map arc_value a.programs.items) a.journal a.live a.idle)) a.journal
-        (held_of a.homes.items a.ready.items a.over (map (λ box. box.items) a.mail.items) a.sends a.out)
-        (vec_len a.homes) (vec_len a.mail) (deque_capacity a.ready) };
+        (setting_of E.begin E.at (seen (map arc_value a.programs.items) a.journal a.live a.idle 0)) a.journal
+        (record {
+          places = a.places.items;
+          mail = a.mail.items;
+          queue = a.queue;
+          sends = a.sends;
+          time = a.time;
+          row = a.row;
+          out = a.out;
+          over = a.over;
+        }) };
 }
 
 /// The number of the first process.
 const FIRST: u64 = 1;
 
-/// A home for the numbers 0 and 1: process 1 is at home.
-fn first_homes<E: Engine, O: Outside>(
+/// How many numbers there are, from 0 on.
+const NUMBERS: usize = 2;
+
+/// A place for the numbers 0 and 1: process 1 is at home.
+fn first_places<E: Engine, O: Outside>(
     alloc: Global,
     proc: Proc<E, O>,
-) -> Result<Vec<Option<Proc<E, O>>>, NoMemory>
-    ensures { IfOk result (λ homes. homes.items ≡ None ∷ Some proc ∷ []) }
+) -> Result<Vec<Place<E, O>>, NoMemory>
+    ensures { IfOk result (λ places. places.items ≡ Nobody ∷ Home proc ∷ []) }
 {
-    let mut homes = Vec::with_capacity(alloc, 2)?;
-    homes.push_reserved(None);
-    homes.push_reserved(Some(proc));
-    Ok(homes)
+    let mut places = Vec::with_capacity(alloc, NUMBERS)?;
+    places.push_reserved(Place::Nobody);
+    places.push_reserved(Place::Home(proc));
+    Ok(places)
 }
 
 /// An empty mailbox for the numbers 0 and 1.
-fn first_mail(alloc: Global) -> Result<Vec<Vec<Letter>>, NoMemory>
-    ensures { IfOk result (λ mail. map (λ box. box.items) mail.items ≡ [] ∷ [] ∷ []) }
+fn first_mail(alloc: Global) -> Result<Vec<Mailbox<Letter>>, NoMemory>
+    ensures { IfOk result (λ mail. map letters_in mail.items ≡ [] ∷ [] ∷ []) }
 {
-    let mut mail = Vec::with_capacity(alloc, 2)?;
-    mail.push_reserved(Vec::new(alloc));
-    mail.push_reserved(Vec::new(alloc));
+    let mut mail = Vec::with_capacity(alloc, NUMBERS)?;
+    mail.push_reserved(Mailbox::new(alloc));
+    mail.push_reserved(Mailbox::new(alloc));
     Ok(mail)
 }
 
-/// A ready list with process 1.
-fn first_ready(alloc: Global) -> Result<VecDeque<u64>, NoMemory>
-    ensures items { IfOk result (λ ready. ready.items ≡ 1 ∷ []) }
-    ensures place { IfOk result (λ ready. 0 < deque_capacity ready) }
+/// A queue in which process 1 is ready and nobody waits.
+fn first_queue(alloc: Global) -> Result<Queue, NoMemory>
+    ensures ready { IfOk result (λ queue. queue.ready ≡ 1 ∷ []) }
+    ensures deadlines { IfOk result (λ queue. queue.deadlines ≡ empty) }
+    ensures room { IfOk result (λ queue. 2 ≤ queue.room) }
 {
-    let mut ready = VecDeque::new(alloc);
-    ready.reserve(1)?;
-    ready.push_back_reserved(FIRST);
-    Ok(ready)
+    let mut queue = Queue::new(alloc);
+    queue.reserve(NUMBERS as u32)?;
+    queue.push_reserved(FIRST);
+    Ok(queue)
 }
 
 /// A journal of the birth of process 1, with a place for a Starve.
@@ -113,12 +141,10 @@ fn first_journal(alloc: Global, start: &Start) -> Result<Journal, NoMemory>
 }
 
 impl<E: Engine, O: Outside> Node<E, O> {
-    /// A node in which process 1 is born with this start, and nothing has happened. `live` and
-    /// `idle` are the terms of its run: how many processes may live at once, and how long it may be
-    /// idle.
+    /// A node in which process 1 is born with this start, and nothing has happened. `live` and `idle` are the terms of
+    /// its run: how many processes may live at once, and how long it may be idle.
     ///
-    /// It is refused with what the program's begin says, or for want of memory, and then the begin
-    /// refuses nothing.
+    /// It is refused with what the program's begin says, or for want of memory, and then the begin refuses nothing.
     pub fn new(
         alloc: Global,
         programs: Vec<Arc<E::Program>>,
@@ -146,42 +172,42 @@ impl<E: Engine, O: Outside> Node<E, O> {
         let Ok(mail) = first_mail(alloc) else {
             return Err(StartRefusal::NoMemory);
         };
-        let Ok(ready) = first_ready(alloc) else {
+        let Ok(queue) = first_queue(alloc) else {
             return Err(StartRefusal::NoMemory);
         };
-        let proc = Proc {
-            engine,
-            start,
-            scratch: None,
-            fuel: 0,
-            of: PhantomData,
+        let Ok(proc) = Proc::new(alloc, engine, start) else {
+            return Err(StartRefusal::NoMemory);
         };
-        let Ok(homes) = first_homes(alloc, proc) else {
+        let Ok(places) = first_places(alloc, proc) else {
             return Err(StartRefusal::NoMemory);
         };
         Ok(Node {
+            alloc,
             programs,
             live,
             idle,
             journal,
-            homes,
+            places,
             mail,
-            ready,
+            queue,
             sends: 0,
+            time: 0,
+            row: 0,
             out: 0,
             over: false,
         })
     }
 
-    /// Makes room for the entries of one take and its give, beside what is reserved for those that
-    /// are out. NoMemory leaves all as it was.
+    /// Makes room for the entries of a tick, and of one take and its give, beside what is reserved for those that are
+    /// out. NoMemory leaves all as it was.
     pub fn reserve_turn(&mut self) -> Result<(), NoMemory>
         ensures same { SameTerms self.old self.new }
         ensures kept { KeepsAll self.old.book self.new.book }
-        ensures reserved { OnOk result (IsReserved self.new) }
+        ensures reserved { OnOk result (3 ≤ self.new.spare) }
+        ensures spare { self.old.spare ≤ self.new.spare }
         ensures run { IsRun (setting_of E.begin E.at self.new) self.new.book }
     {
-        let Some(places) = self.out.checked_add(3) else {
+        let Some(places) = self.out.checked_add(4) else {
             return Err(NoMemory);
         };
         self.journal.reserve(places)?;
@@ -203,18 +229,21 @@ impl<E: Engine, O: Outside> Node<E, O> {
         ensures run { IsRun (setting_of E.begin E.at self) result }
     {
         let Node {
+            alloc: _,
             programs,
             live: _,
             idle: _,
             journal,
-            homes,
+            places,
             mail,
-            ready,
+            queue,
             sends: _,
+            time: _,
+            row: _,
             out: _,
             over: _,
         } = self;
-        drop((programs, homes, mail, ready));
+        drop((programs, places, mail, queue));
         journal
     }
 }

@@ -1,102 +1,131 @@
-ghost use Rattle.std.specs.Prelude.{◌≡◌, true, false, length, ◌<◌, [], option_map};
-ghost use Rattle.journal.specs.Lives.{IsRun};
-ghost use Rattle.world_laws.specs.Seats.{meaning};
+ghost use Rattle.std.specs.Prelude.{◌≡◌, ◌<◌, ◌≤◌, length, false, true};
+ghost use Rattle.world_rules.specs.Lives.{IsRun};
+ghost use Rattle.world_rules.specs.declared.entry.Entry.TheVariants.{Starve};
+ghost use Rattle.node_state.specs.Seats.{meaning};
+ghost use Rattle.node_state.specs.Fits.{IsLastOf};
+ghost use Rattle.node_state.specs.Slots.{struck};
 ghost use Rattle.process_table.specs.Seen.{setting_of, world_of};
-ghost use Rattle.process_table.specs.Holds.{seat_of};
-ghost use Rattle.process_table.specs.Takes.{SameTerms, IsReserved, IsTaken, RecordsEntry, MayEndAll, AddsLast, away_in};
-ghost use Rattle.journal.specs.declared.entry.Entry.TheVariants.{Starve};
+ghost use Rattle.process_table.specs.Holds.{slot_of, AddsLast};
+ghost use Rattle.process_table.specs.Takes.{SameTerms, IsTaken, RecordsEntry, MayEndAll};
 
 use super::{FIRST, Node};
-use crate::{Proc, Taken};
+use crate::Taken;
+use crate::place::Place;
+use host_calls::Proc;
 use host_port::Engine;
-use journal::{Ended, Entry, Journal};
+use journal::Journal;
 use outside::Outside;
+use std::mem::replace;
+use tagged_mailbox::Mailbox;
+use world_rules::{End, Ended, Entry, sound, touches};
 
-/// Records what is kept at the end of the process of this number, where it is at home.
-fn record_last<E: Engine, O: Outside>(journal: &mut Journal, pid: u64, home: Option<Proc<E, O>>)
-    requires { length journal.old.ends < length journal.old.births }
-    ensures { AddsLast (meaning E.stands E.phase E.memory) pid (option_map seat_of home) journal.old journal.new }
+/// What is kept of the process of this number at its end.
+pub(super) fn last_of<E: Engine, O: Outside>(pid: u64, proc: &Proc<E, O>) -> Ended
+    ensures { IsLastOf (meaning E.stands E.phase E.memory) pid proc.now.engine result }
 {
-    if let Some(proc) = home {
-        journal.ended(Ended {
-            pid,
-            pages: proc.engine.pages(),
-            mark: proc.engine.mark(),
-        });
+    Ended {
+        pid,
+        pages: proc.engine.pages(),
+        mark: proc.engine.mark(),
+    }
+}
+
+/// The place of a process after an end has come to it from outside its turn. Where it is at home, what is kept of it is
+/// recorded.
+fn strike<E: Engine, O: Outside>(
+    journal: &mut Journal,
+    pid: u64,
+    place: Place<E, O>,
+    end: End,
+) -> Place<E, O>
+    requires { length journal.old.ends < length journal.old.births }
+    ensures slot { slot_of result ≡ struck end (slot_of place) }
+    ensures last { AddsLast (meaning E.stands E.phase E.memory) pid (slot_of place) journal.old journal.new }
+{
+    match place {
+        Place::Home(proc) => {
+            journal.ended(last_of(pid, &proc));
+            Place::Gone
+        }
+        Place::Asleep(proc, _) => {
+            journal.ended(last_of(pid, &proc));
+            Place::Gone
+        }
+        Place::Away(worker) => Place::Fated(worker, end),
+        other => other,
     }
 }
 
 impl<E: Engine, O: Outside> Node<E, O> {
-    /// Ends all processes, and the run, by this entry.
-    fn end_all(&mut self, entry: Entry)
+    /// Ends all processes, and the run, by this entry, with this end. Process 1 is alone so far.
+    fn end_all(&mut self, entry: Entry, end: End)
         requires going { (world_of self.old).over ≡ false }
-        requires due { MayEndAll (world_of self.old) entry }
+        requires due { MayEndAll self.old entry end }
         ensures same { SameTerms self.old self.new }
         ensures recorded { RecordsEntry self.old.book self.new.book entry }
         ensures over { (world_of self.new).over ≡ true }
+        ensures spare { self.old.spare ≤ self.new.spare }
         ensures run { IsRun (setting_of E.begin E.at self.new) self.new.book }
     {
+        sound();
+        touches();
         self.journal.add(entry);
-        let home = self.homes[FIRST as usize].take();
-        record_last(&mut self.journal, FIRST, home);
-        self.mail[FIRST as usize].clear();
-        self.ready.clear();
+        let place = replace(&mut self.places[FIRST as usize], Place::Gone);
+        let struck = strike(&mut self.journal, FIRST, place, end);
+        self.places[FIRST as usize] = struck;
+        self.mail[FIRST as usize] = Mailbox::new(self.alloc);
+        self.queue.remove(FIRST);
+        self.queue.clear_deadline(FIRST);
+        self.row = 0;
         self.over = true;
-    }
-
-    /// Hands out the front of the ready list.
-    fn take_front(&mut self, worker: u8) -> Taken<E, O>
-        requires reserved { IsReserved self.old }
-        requires going { (world_of self.old).over ≡ false }
-        requires some { 0 < length (world_of self.old).ready }
-        ensures same { SameTerms self.old self.new }
-        ensures taken { IsTaken (meaning E.stands E.phase E.memory) E.may_ask self.old self.new worker result }
-        ensures run { IsRun (setting_of E.begin E.at self.new) self.new.book }
-    {
-        let Some(pid) = self.ready.pop_front() else {
-            unreachable!()
-        };
-        let Some(proc) = self.homes[pid as usize].take() else {
-            unreachable!()
-        };
-        self.journal.add(Entry::Take { worker, pid });
-        self.out += 1;
-        Taken::Proc(proc)
     }
 
     /// Takes the process at the front of the ready list, and records it.
     ///
-    /// `Over` comes exactly where the run is over, also by the Stall that this call records where
-    /// nothing is ready and no worker has a process. `Nothing` comes exactly where the run is not
-    /// over and nothing is ready.
+    /// `Over` comes exactly where the run is over, also by the Idle or the Stall that this call records: Idle where the
+    /// run was idle for too long, and Stall where nothing is ready, no worker has a process, and nobody waits with a
+    /// deadline. `Nothing` comes where nothing is ready, and the run goes on.
     pub fn take(&mut self, worker: u8) -> Taken<E, O>
-        requires { IsReserved self.old }
+        requires { 2 ≤ self.old.spare }
         ensures same { SameTerms self.old self.new }
         ensures taken { IsTaken (meaning E.stands E.phase E.memory) E.may_ask self.old self.new worker result }
         ensures run { IsRun (setting_of E.begin E.at self.new) self.new.book }
     {
+        sound();
+        touches();
         if self.over {
             return Taken::Over;
         }
-        if !self.ready.is_empty() {
-            return self.take_front(worker);
+        if self.idle <= self.row {
+            self.end_all(Entry::Idle { worker }, End::Idle);
+            return Taken::Over;
         }
-        if self.out > 0 {
+        if let Some(pid) = self.queue.pop() {
+            let place = replace(&mut self.places[pid as usize], Place::Away(worker));
+            let Place::Home(proc) = place else {
+                unreachable!()
+            };
+            self.journal.add(Entry::Take { worker, pid });
+            self.out += 1;
+            return Taken::Proc(proc);
+        }
+        if self.out > 0 || self.queue.timed() {
             return Taken::Nothing;
         }
-        self.end_all(Entry::Stall { worker });
+        self.end_all(Entry::Stall { worker }, End::Stalled);
         Taken::Over
     }
 
-    /// Ends the run for want of memory, unless it is over. Its place is reserved from the start.
+    /// Ends the run for want of memory, unless it is over. Its place is kept from the start.
     pub fn starve(&mut self, worker: u8)
         ensures same { SameTerms self.old self.new }
         ensures over { (world_of self.old).over ≡ true → self.new.book ≡ self.old.book }
         ensures recorded { (world_of self.old).over ≡ false → RecordsEntry self.old.book self.new.book (Starve worker) }
+        ensures ends { (world_of self.new).over ≡ true }
         ensures run { IsRun (setting_of E.begin E.at self.new) self.new.book }
     {
         if !self.over {
-            self.end_all(Entry::Starve { worker });
+            self.end_all(Entry::Starve { worker }, End::NoMemory);
         }
     }
 }

@@ -1,26 +1,30 @@
 use Rattle.std.proofs.Common.{refl, arith, sym, ◌∙◌, ap, map, List}
-use Rattle.process_table.specs.declared.message.Letter.{Letter}
-use Rattle.process_table.specs.Holds.{letter_of}
 use Rattle.std.proofs.lemmas.Grind.{common_steps}
+use Rattle.process_table.specs.declared.letter.Letter.{Letter}
+use Rattle.process_table.specs.Holds.{letter_of}
 use Rattle.process_table.proofs.Mailboxes.{letters-count, puts-behind}
 use Rattle.process_table.proofs.mailbox.put_message.Goals as goal
 
-pub returns-then-len-ge-MOST_MESSAGES-clause-posts : goal.returns-then-len-ge-MOST_MESSAGES-clause-posts
-returns-then-len-ge-MOST_MESSAGES-clause-posts c =
+pub returns-then-full-clause-posts : goal.returns-then-full-clause-posts
+returns-then-full-clause-posts c = λ traffic.
     let count = letters-count c.args.mail.now.items in
-    (grind (arith, common_steps), grind (arith, common_steps, count), record { mail_stays = refl; scratch_stays = refl })
-
-pub returns-then-is_err-clause-posts : goal.returns-then-is_err-clause-posts
-returns-then-is_err-clause-posts c =
-    let count = letters-count c.args.mail.now.items in
-    (grind (arith, common_steps), grind (arith, common_steps, count), record { mail_stays = ap (λ (xs : List Letter). map letter_of xs) c.reserve.ensures.items; scratch_stays = refl })
-
-pub returns-clause-posts : goal.returns-clause-posts
-returns-clause-posts c =
-    let count = letters-count c.args.mail.now.items in
-    (grind (arith, common_steps), grind (arith, common_steps, count), puts-behind c.args.mail.now.items c.push_reserved.new.self.items c.args.scratch.now c.take.new.self c.args.number c.in-Some.message (sym c.take.ensures.value ∙ c.in-Some.is) (rw c.reserve.ensures.items at c.push_reserved.ensures.items) c.take.ensures.after)
+    (grind (arith, common_steps), grind (arith, common_steps, count), record { mail_stays = refl; part_stays = refl })
 
 pub returns-then-number-eq18446744073709551615-clause-posts : goal.returns-then-number-eq18446744073709551615-clause-posts
-returns-then-number-eq18446744073709551615-clause-posts c =
+returns-then-number-eq18446744073709551615-clause-posts c = λ traffic.
     let count = letters-count c.args.mail.now.items in
-    (grind (arith, common_steps), grind (arith, common_steps, count), record { mail_stays = refl; scratch_stays = refl })
+    (grind (arith, common_steps), grind (arith, common_steps, count), record { mail_stays = refl; part_stays = refl })
+
+pub returns-then-is_err-clause-posts : goal.returns-then-is_err-clause-posts
+returns-then-is_err-clause-posts c = λ traffic.
+    let count = letters-count c.args.mail.now.items in
+    (grind (arith, common_steps), grind (arith, common_steps, count), record { mail_stays = ap (λ (xs : List Letter). map letter_of xs) c.reserve.ensures.items; part_stays = refl })
+
+pub returns-clause-posts : goal.returns-clause-posts
+returns-clause-posts c = λ traffic.
+    let count = letters-count c.args.mail.now.items in (
+      grind (arith, common_steps),
+      grind (arith, common_steps, count),
+      puts-behind traffic c.args.mail.now c.put_reserved.new.self c.args.scratch.now c.let_go.new.self c.args.number c.in-Some-let_go.message c.in-Some-let_go.ensures.given
+          (rw c.reserve.ensures.items at c.put_reserved.ensures.items) c.let_go.ensures.left,
+    )

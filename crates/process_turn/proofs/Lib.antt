@@ -1,6 +1,0 @@
-pub mod Turns
-pub mod Asked
-pub mod Bounds
-pub mod Given
-pub mod Dooms
-pub mod Rounds

@@ -1,5 +1,0 @@
-use Rattle.world_laws.proofs.Ends.{keeps-doomed}
-use Rattle.world_laws.proofs.laws.a_doomed_give_keeps.Goals as goal
-
-pub returns : goal.returns
-returns g c = λ setting. keeps-doomed

@@ -1,5 +1,0 @@
-use Rattle.world_laws.proofs.Ends.{keeps-slice}
-use Rattle.world_laws.proofs.laws.a_slice_keeps.Goals as goal
-
-pub returns : goal.returns
-returns g c = λ setting. keeps-slice

@@ -1,5 +1,0 @@
-use Rattle.world_laws.proofs.Ends.{keeps-end}
-use Rattle.world_laws.proofs.laws.an_end_keeps.Goals as goal
-
-pub returns : goal.returns
-returns g c = λ setting. keeps-end
