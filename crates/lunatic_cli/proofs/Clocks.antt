@@ -1,15 +1,16 @@
 -- Clocks, and the times that entries record.
 use Rattle.std.proofs.Common.{◌≡◌, ◌≤◌, ℕ, List, [], ◌∷◌, ◌++◌, All, Option, Some, None, get_or, refl, sym, ◌∙◌, ap, arith, append_assoc, append-nil, ◌⊎◌, inl, inr}
 use Rattle.std.proofs.lemmas.List.Elements.{All-nil, All-cons, All-append}
+use Rattle.std.specs.Prelude.{IfSome}
 use Rattle.std.proofs.Math.Logic.{∥∥₁_elim}
 use Rattle.std.proofs.Math.Nat.{ℕ_set}
 use Rattle.outside.specs.Makes.{GoesNotBack}
-use Rattle.journal.specs.declared.entry.Entry.{Entry}
-use Rattle.journal.specs.declared.entry.Side.{Side}
-use Rattle.journal.specs.declared.entry.Side.TheVariants as SideIs
-use Rattle.journal.specs.declared.halt.Halt.{Halt}
-use Rattle.journal.specs.declared.halt.Halt.TheVariants as HaltIs
-use Rattle.process_turn.specs.Brings.{IsSideOf}
+use Rattle.world_rules.specs.declared.entry.Entry.{Entry}
+use Rattle.world_rules.specs.declared.entry.Side.{Side}
+use Rattle.world_rules.specs.declared.entry.Side.TheVariants as SideIs
+use Rattle.world_rules.specs.declared.halt.Halt.{Halt}
+use Rattle.world_rules.specs.declared.halt.Halt.TheVariants as HaltIs
+use Rattle.host_calls.specs.Brings.{IsSideOf}
 use Rattle.lunatic_cli.specs.Times.{times_of, time_of, time_beside, AreBetween}
 
 pub not-back-refl : (clock : Option ℕ) → GoesNotBack clock clock
@@ -60,11 +61,16 @@ is-told clock halt side now time told is (inl e) = by halt (rw (told, ← e) at 
     by (HaltIs.Spent spent) i = absurd (let x = i in cc)
     by (HaltIs.Host fault request) i = absurd (let x = i in cc)
     by HaltIs.NoMemory i = absurd (let x = i in cc)
+    by HaltIs.Again i = absurd (let x = i in cc)
 
 -- what was recorded with a Give lies between, where the clock stayed from the process's taking on
-pub between-given : (before clock : Option ℕ) (halt : Halt) (side recorded : Side) → GoesNotBack before clock → IsSideOf clock halt side → ∥ (recorded ≡ side) ⊎ (recorded ≡ SideIs.NoMemory) ∥₁ → AreBetween before clock (time_beside recorded)
+pub between-given : (before clock : Option ℕ) (halt : Halt) (side recorded : Side) → GoesNotBack before clock → IsSideOf clock halt side → ∥ (recorded ≡ side) ⊎ (recorded ≡ SideIs.NoMemory) ∥₁
+    → AreBetween before clock (time_beside recorded)
 between-given before clock halt side SideIs.Nothing later is from = between-none before clock
 between-given before clock halt side SideIs.NoMemory later is from = between-none before clock
+between-given before clock halt side SideIs.Pending later is from = between-none before clock
+between-given before clock halt side (SideIs.Answer reply) later is from = between-none before clock
+between-given before clock halt side SideIs.Opened later is from = between-none before clock
 between-given None clock halt side (SideIs.Clock now) later is from = tt
 between-given (Some early) None halt side (SideIs.Clock now) later is from = tt
 between-given (Some early) (Some time) halt side (SideIs.Clock now) later is from =
@@ -72,7 +78,8 @@ between-given (Some early) (Some time) halt side (SideIs.Clock now) later is fro
     All-cons (λ at. (early ≤ at) × (at ≤ time)) now [] (omega arith, omega arith) (All-nil (λ at. (early ≤ at) × (at ≤ time)))
 
 -- an entry that records no time, or none
-pub times-ended : (before kept after more : List Entry) (entry : Entry) → kept ≡ before → after ≡ kept ++ more → (more ≡ []) ⊎ (more ≡ entry ∷ []) → time_of entry ≡ [] → times_of after ≡ times_of before ++ []
+pub times-ended : (before kept after more : List Entry) (entry : Entry) → kept ≡ before → after ≡ kept ++ more → (more ≡ []) ⊎ (more ≡ entry ∷ []) → time_of entry ≡ []
+    → times_of after ≡ times_of before ++ []
 times-ended before kept after more entry same is one none =
     ap times_of is ∙ times-append kept more ∙ ap (λ (ts : List ℕ). times_of kept ++ ts) (by one) ∙ ap (λ (es : List Entry). times_of es ++ []) same
   where
@@ -81,7 +88,36 @@ times-ended before kept after more entry same is one none =
     by (inr e) = ap times_of e ∙ ap (λ (ts : List ℕ). ts ++ []) none
 
 -- a Take and a Give
-pub times-round : (before kept mid after : List Entry) (take give : Entry) → kept ≡ before → mid ≡ kept ++ take ∷ [] → after ≡ mid ++ give ∷ [] → time_of take ≡ [] → times_of after ≡ times_of before ++ time_of give
+pub times-round : (before kept mid after : List Entry) (take give : Entry) → kept ≡ before → mid ≡ kept ++ take ∷ [] → after ≡ mid ++ give ∷ [] → time_of take ≡ []
+    → times_of after ≡ times_of before ++ time_of give
 times-round before kept mid after take give same took gave none =
     let one : times_of mid ≡ times_of before = times-ended before kept mid (take ∷ []) take same took (inr refl) none ∙ append-nil (times_of before) in
     ap times_of gave ∙ times-append mid (give ∷ []) ∙ ap (λ (ts : List ℕ). ts ++ (time_of give ++ [])) one ∙ ap (λ (ts : List ℕ). times_of before ++ ts) (append-nil (time_of give))
+
+-- the time of a Tick lies between, where the clock stays
+pub between-tick : (clock : Option ℕ) (now : ℕ) → IfSome clock (λ time. now ≡ time) → AreBetween clock clock (now ∷ [])
+between-tick None now told = tt
+between-tick (Some time) now told = All-cons (λ at. (time ≤ at) × (at ≤ time)) now [] (omega (arith, told), omega (arith, told)) (All-nil (λ at. (time ≤ at) × (at ≤ time)))
+
+-- one entry more
+pub times-one : (before after : List Entry) (entry : Entry) → after ≡ before ++ entry ∷ [] → times_of after ≡ times_of before ++ time_of entry
+times-one before after entry is = ap times_of is ∙ times-append before (entry ∷ []) ∙ ap (λ (ts : List ℕ). times_of before ++ ts) (append-nil (time_of entry))
+
+-- entries that record no time
+pub times-none : (before after more : List Entry) → after ≡ before ++ more → times_of more ≡ [] → times_of after ≡ times_of before
+times-none before after more is none = ap times_of is ∙ times-append before more ∙ ap (λ (ts : List ℕ). times_of before ++ ts) none ∙ append-nil (times_of before)
+
+-- the clock is told as before
+pub not-back-same : (before after : Option ℕ) → after ≡ before → GoesNotBack before after
+not-back-same before after same = rw same (not-back-refl before)
+
+pub between-same : (before clock after : Option ℕ) (times : List ℕ) → clock ≡ before → GoesNotBack clock after → AreBetween before before times → AreBetween before after times
+between-same before clock after times same later between =
+    let back = rw same at later in
+    rw (← append-nil times) (between-both before before after times [] (not-back-refl before) back between (between-none before after))
+
+-- what the reading of the clock recorded, and then the turn
+pub times-both : (was kept read now : List Entry) (first later : List ℕ) → kept ≡ was → times_of read ≡ times_of kept ++ first → times_of now ≡ times_of read ++ later
+    → times_of now ≡ times_of was ++ (first ++ later)
+times-both was kept read now first later same one two =
+    two ∙ ap (λ (ts : List ℕ). ts ++ later) (one ∙ ap (λ (es : List Entry). times_of es ++ first) same) ∙ append_assoc (times_of was) first later

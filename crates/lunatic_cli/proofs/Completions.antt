@@ -81,7 +81,7 @@ refused_completes alone (Some files) name bytes options said status is_content o
 pub memory_completes : (content : Option Contents) (name : List ℕ) (options : Options) (status : ℕ) → status ≡ 8 → RunCompletes content name options status
 memory_completes None name options status s = tt
 memory_completes (Some files) name options status s = record {
-  begun = λ _ _ _. inr (inr (inr s));
+  begun = λ _ _ _. inr (inr (inr (inr s)));
   returned = λ _ _ _. inr s;
   unbegun = λ _ _ _ _. inr s;
   refused = λ _ _ _. inr s;

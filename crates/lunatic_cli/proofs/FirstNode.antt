@@ -2,7 +2,7 @@
 use Rattle.std.proofs.Common.{◌≡◌, ℕ, List, [], ◌∷◌, Some, slice_get, refl, sym, ◌∙◌, ap}
 use Rattle.host_port.specs.declared.start.Start.{Start}
 use Rattle.host_port.specs.declared.start.StartRefusal.{StartRefusal}
-use Rattle.journal.specs.World.{first_start as start_in}
+use Rattle.world_rules.specs.World.{first_start as start_in}
 use Rattle.process_table.specs.Seen.{Seen, setting_of}
 use Rattle.module_validator.specs.ValidModule.{ValidModule}
 use Rattle.tree_machine.specs.Begin as begins
@@ -20,7 +20,9 @@ setting-valid options valid node first =
       programs = first.programs i;
       begin = λ v start. begins.begin v.parts start;
       at = λ v start. runs.at v.parts start;
-      terms = record { first = start i; live = first.live i; idle = first.idle i };
+      first = start i;
+      live = first.live i;
+      idle = first.idle i;
     }
 
 -- the one program of a list

@@ -2,7 +2,7 @@
 use Rattle.std.proofs.Common.{◌≡◌, ℕ, List, length, Bool, true, false, Option, Some, None, IsSome, slice_get, nat_lt, option_and_then, refl, sym, ◌∙◌, ap, if◌then◌else◌}
 use Rattle.host_port.specs.HostTable.{Row, row_of, row_of_import}
 use Rattle.host_port.proofs.RowLaws.{import_call}
-use Rattle.process_table.specs.Rows.{AllHaveRows}
+use Rattle.node_state.specs.Rows.{AllHaveRows}
 use Rattle.wasm_form.specs.declared.types.FuncType.{FuncType}
 use Rattle.wasm_form.specs.declared.parts.Import.{Import}
 use Rattle.wasm_form.specs.declared.parts.Parts.{Parts}

@@ -2,13 +2,17 @@ pub mod Fronts
 pub mod GivenBack
 pub mod Rounds
 pub mod SomeExecuted
+pub mod ServedCalls
 pub mod Steps
+pub mod Ticking
+pub mod ScriptRows
 pub mod Clocks
 pub mod Entered
 pub mod Outsides
 pub mod Births
 pub mod HostRows
 pub mod FirstNode
+pub mod LastEntries
 pub mod OneModule
 pub mod Returned
 pub mod AcceptedAlone

@@ -1,27 +1,29 @@
 -- The run of a module that asks nothing and returns ends Done, or for want of memory.
-use Rattle.std.proofs.Common.{◌≡◌, ◌<◌, ◌||◌, ℕ, ◌+◌, ◌-◌, List, [], ◌∷◌, ◌++◌, Option, Some, None, Bool, true, false, slice_get, option_map, refl, sym, ◌∙◌, ap, subst, arith, ◌⊎◌, inl, inr}
-use Rattle.std.specs.List.{list_any}
+use Rattle.std.proofs.Common.{◌≡◌, length, ◌<◌, ℕ, ◌+◌, ◌-◌, List, [], ◌∷◌, ◌++◌, Option, Some, None, slice_get, option_map, refl, sym, ◌∙◌, ap, subst, arith, ◌⊎◌, inl, inr}
 use Rattle.std.proofs.lemmas.Bool.{cases_lt}
-use Rattle.std.proofs.lemmas.List.Folds.{list_any-append}
 use Rattle.outside.specs.Causes.{RoseOrFull, StayedBelow}
 use Rattle.host_port.specs.declared.ask.Ask.{Ask}
 use Rattle.host_port.specs.declared.call.Call.{Call}
+use Rattle.host_port.specs.declared.reply.Reply.{Reply}
+use Rattle.host_port.specs.declared.request.Request.{Request}
 use Rattle.host_port.specs.declared.start.Start.{Start}
 use Rattle.host_port.specs.declared.stop.Spent.{Spent}
 use Rattle.host_port.specs.declared.stop.Spent.TheVariants as limit
 use Rattle.host_port.specs.Standing.{State, Ready, Asking, Finished, Trapped, Exhausted, state_of}
 use Rattle.host_port.specs.Steps.{RunsOut}
-use Rattle.journal.specs.declared.entry.Entry.{Entry}
-use Rattle.journal.specs.declared.entry.Entry.TheVariants as EntryIs
-use Rattle.journal.specs.declared.halt.Halt.{Halt}
-use Rattle.journal.specs.declared.halt.Halt.TheVariants as HaltIs
-use Rattle.journal.specs.declared.halt.End.{End}
-use Rattle.journal.specs.declared.halt.End.TheVariants as EndIs
-use Rattle.journal.specs.Book.{Book}
-use Rattle.journal.specs.World.{Process, Ended}
-use Rattle.journal.specs.Lives.{IsTurnOf}
-use Rattle.journal.specs.Runs.{told}
-use Rattle.world_laws.specs.Fits.{end_of}
+use Rattle.turn_rules.specs.Turn.{Ending, Exceeds, EndsSo}
+use Rattle.world_rules.specs.declared.entry.Entry.{Entry}
+use Rattle.world_rules.specs.declared.entry.Entry.TheVariants as EntryIs
+use Rattle.world_rules.specs.declared.halt.Halt.{Halt}
+use Rattle.world_rules.specs.declared.halt.Halt.TheVariants as HaltIs
+use Rattle.world_rules.specs.declared.halt.End.{End}
+use Rattle.world_rules.specs.declared.halt.End.TheVariants as EndIs
+use Rattle.world_rules.specs.Book.{Book}
+use Rattle.world_rules.specs.World.{Process, Ended}
+use Rattle.world_rules.specs.Local.{local}
+use Rattle.world_rules.specs.Lives.{IsTurnOf}
+use Rattle.world_rules.specs.Views.{Ends, want_of}
+use Rattle.world_rules.specs.Told.{told}
 use Rattle.wasm_form.specs.declared.parts.Parts.{Parts}
 use Rattle.module_validator.specs.ValidModule.{ValidModule}
 use Rattle.tree_machine.specs.Point.{Point, point, shown}
@@ -33,10 +35,10 @@ use Rattle.lunatic_cli.specs.declared.finish.Finish.{Finish}
 use Rattle.lunatic_cli.specs.declared.options.Options.{Options}
 use Rattle.lunatic_cli.specs.Options.{first_start}
 use Rattle.lunatic_cli.specs.Runs.{valid_setting, Returns}
-use Rattle.lunatic_cli.specs.Statuses.{is_stall, is_starve, told_status, status_of_end, EndsFirst, EndsByLast, HasStatus}
+use Rattle.lunatic_cli.specs.Statuses.{told_status, status_of_end, AsksSomething, EndsFirst, NoneEndsAll, EndsByLast, HasStatus}
 use Rattle.lunatic_cli.specs.Ending.{WritesReport, RefusesStart, RunsNothing}
 use Rattle.lunatic_cli.specs.Writing.{Written}
-use Rattle.lunatic_cli.proofs.Rounds.{none-append}
+use Rattle.lunatic_cli.proofs.LastEntries.{status-last}
 
 -- where such a run can stand
 
@@ -133,62 +135,65 @@ module _ (m : Parts) (start : Start) (returns : (n : ℕ) × (state_of (at m sta
   spends-not calls k most used budget limit.Values same out = neither-exhausted limit.Values _ (either-way m start returns.0 returns.1 calls k (Exhausted limit.Values) out)
   spends-not calls k most used budget limit.Traffic same out = absurd out
 
+  spent-not : {A L : Type 0} (local : L → Request → Option (Reply × L)) (after : L) (p : Process) (calls : List Call) (used : ℕ) (s : Spent) (ending : Ending) → p.start ≡ start → ending ≡ Exceeds s →
+      EndsSo local ending (at m start (p.calls ++ calls) (p.fuel + used)) after (p.fuel + used) p.start.limits.fuel used (length calls) → A
+  spent-not local after p calls used s ending started is ends =
+      let e = rw is at ends in
+      let same : start.limits.fuel ≡ p.start.limits.fuel = ap (λ (x : Start). x.limits.fuel) (sym started) in
+      spends-not (p.calls ++ calls) (p.fuel + used) p.start.limits.fuel used 10000 s same e.0
+
   -- the ends that a turn of the module brings
-  turn-ends : (p : Process) (calls : List Call) (used : ℕ) (halt : Halt) (end : End) → p.start ≡ start → end_of halt ≡ Some end → IsTurnOf (at m start) p calls used halt →
+  turn-ends : (p : Process) (calls : List Call) (used : ℕ) (halt : Halt) (end : End) → p.start ≡ start → want_of halt ≡ Ends end → IsTurnOf (at m start) p calls used halt →
       (end ≡ EndIs.Done) ⊎ (end ≡ EndIs.NoMemory)
   turn-ends p calls used HaltIs.Slice end started halts turn = absurd (cc)
   turn-ends p calls used (HaltIs.Asks request) end started halts turn = absurd (cc)
   turn-ends p calls used HaltIs.Done end started halts turn = inl (let h = halts in cc)
   turn-ends p calls used (HaltIs.Trap t) end started halts turn =
       let e = rw turn.halted at turn.turn.ends in traps-not (p.calls ++ calls) (p.fuel + used) t e
-  turn-ends p calls used (HaltIs.Spent s) end started halts turn =
-      let e = rw turn.halted at turn.turn.ends in
-      let same : start.limits.fuel ≡ p.start.limits.fuel = ap (λ (x : Start). x.limits.fuel) (sym started) in
-      spends-not (p.calls ++ calls) (p.fuel + used) p.start.limits.fuel used 10000 s same e.0
+  turn-ends p calls used (HaltIs.Spent limit.Fuel) end started halts turn = spent-not (local p.start) turn.turn.after p calls used limit.Fuel turn.ending started turn.halted turn.turn.ends
+  turn-ends p calls used (HaltIs.Spent limit.Frames) end started halts turn = spent-not (local p.start) turn.turn.after p calls used limit.Frames turn.ending started turn.halted turn.turn.ends
+  turn-ends p calls used (HaltIs.Spent limit.Values) end started halts turn = spent-not (local p.start) turn.turn.after p calls used limit.Values turn.ending started turn.halted turn.turn.ends
+  turn-ends p calls used (HaltIs.Spent limit.Traffic) end started halts turn =
+      let e = rw turn.halted.1 at turn.turn.ends in
+      asks-nothing (p.calls ++ calls) (p.fuel + used) turn.halted.0.ask (ap state_of e.0.asking)
   turn-ends p calls used (HaltIs.Host fault request) end started halts turn =
       let e = rw turn.halted at turn.turn.ends in
       asks-nothing (p.calls ++ calls) (p.fuel + used) request.ask (ap state_of e.0.asking)
-  turn-ends p calls used HaltIs.NoMemory end started halts turn = inr (let h = halts in cc)
+  turn-ends p calls used HaltIs.NoMemory end started halts turn = inr (let h : Ends EndIs.NoMemory ≡ Ends end = halts in cc)
+  turn-ends p calls used HaltIs.Again end started halts turn = absurd (cc)
 
 -- the status
 
 one-program : (valid program : ValidModule) → slice_get (valid ∷ []) 0 ≡ Some program → program ≡ valid
 one-program valid program found = let e : Some valid ≡ Some program = found in cc
 
-status-last : (earlier : List Entry) (last : Entry) (end : End) → list_any is_stall earlier ≡ false → is_stall last ≡ false → list_any is_starve earlier ≡ false → is_starve last ≡ false →
-    told_status (earlier ++ last ∷ []) end ≡ status_of_end end
-status-last earlier last end a b c d =
-    let one : list_any is_stall (earlier ++ last ∷ []) ≡ false = none-append is_stall earlier (last ∷ []) a (rw b refl) in
-    let two : list_any is_starve (earlier ++ last ∷ []) ≡ false = none-append is_starve earlier (last ∷ []) c (rw d refl) in
-    rw (two, one) refl
-
-status-starved : (earlier : List Entry) (worker : ℕ) (end : End) → list_any is_starve earlier ≡ false → told_status (earlier ++ EntryIs.Starve worker ∷ []) end ≡ 8
-status-starved earlier worker end c =
-    let two : list_any is_starve (earlier ++ EntryIs.Starve worker ∷ []) ≡ true = list_any-append is_starve earlier (EntryIs.Starve worker ∷ []) ∙ ap (λ (b : Bool). b || true) c in
-    rw two refl
-
 status-of : (end : End) → (end ≡ EndIs.Done) ⊎ (end ≡ EndIs.NoMemory) → (status_of_end end ≡ 0) ⊎ (status_of_end end ≡ 8)
 status-of end (inl e) = inl (ap status_of_end e)
 status-of end (inr e) = inr (ap status_of_end e)
 
+-- a module that returns asks nothing
+asks-not : {A : Type 0} (options : Options) (valid : ValidModule) → Returns options valid.parts → AsksSomething (valid_setting options valid) → A
+asks-not options valid returns asks =
+    let same = one-program valid asks.program asks.found in
+    let here : state_of (at valid.parts (first_start options) asks.calls asks.fuel) ≡ Some (Asking asks.ask) =
+    subst (λ (v : ValidModule). state_of (at v.parts (first_start options) asks.calls asks.fuel) ≡ Some (Asking asks.ask)) same asks.asks in
+    asks-nothing valid.parts (first_start options) (returns.fuel, returns.returned) asks.calls asks.fuel asks.ask here
+
 -- the status that the last entry of the run tells
-status-by : (options : Options) (valid : ValidModule) (earlier : List Entry) (last : Entry) (end : End) → Returns options valid.parts → list_any is_stall earlier ≡ false →
-    list_any is_starve earlier ≡ false → EndsFirst (valid_setting options valid) end last → (told_status (earlier ++ last ∷ []) end ≡ 0) ⊎ (told_status (earlier ++ last ∷ []) end ≡ 8)
-status-by options valid earlier (EntryIs.Take worker pid) end returns a c by = absurd by
-status-by options valid earlier (EntryIs.Give worker pid calls fuel halt side) end returns a c by =
+status-by : (options : Options) (valid : ValidModule) (earlier : List Entry) (last : Entry) (end : End) → Returns options valid.parts → NoneEndsAll earlier →
+    EndsFirst (valid_setting options valid) end last → (told_status (earlier ++ last ∷ []) end ≡ 0) ⊎ (told_status (earlier ++ last ∷ []) end ≡ 8)
+status-by options valid earlier (EntryIs.Take worker pid) end returns none by = absurd by
+status-by options valid earlier (EntryIs.Give worker pid calls fuel halt side) end returns none by =
     let turn = by.1 in
     let same = one-program valid turn.program turn.found in
     let here : IsTurnOf (at valid.parts (first_start options)) turn.process calls (fuel - turn.process.fuel) halt =
     subst (λ (v : ValidModule). IsTurnOf (at v.parts (first_start options)) turn.process calls (fuel - turn.process.fuel) halt) same turn.turn in
     let ends = status-of end (turn-ends valid.parts (first_start options) (returns.fuel, returns.returned) turn.process calls (fuel - turn.process.fuel) halt end turn.start by.0 here) in
-    rw (status-last earlier (EntryIs.Give worker pid calls fuel halt side) end a refl c refl) ends
-status-by options valid earlier (EntryIs.Stall worker) end returns a c by =
-    let asks = by.1 in
-    let same = one-program valid asks.program asks.found in
-    let here : state_of (at valid.parts (first_start options) asks.calls asks.fuel) ≡ Some (Asking asks.ask) =
-    subst (λ (v : ValidModule). state_of (at v.parts (first_start options) asks.calls asks.fuel) ≡ Some (Asking asks.ask)) same asks.asks in
-    asks-nothing valid.parts (first_start options) (returns.fuel, returns.returned) asks.calls asks.fuel asks.ask here
-status-by options valid earlier (EntryIs.Starve worker) end returns a c by = inr (status-starved earlier worker end c)
+    rw (status-last earlier (EntryIs.Give worker pid calls fuel halt side) end none) ends
+status-by options valid earlier (EntryIs.Tick worker now) end returns none by = absurd by
+status-by options valid earlier (EntryIs.Stall worker) end returns none by = asks-not options valid returns by.1
+status-by options valid earlier (EntryIs.Idle worker) end returns none by = asks-not options valid returns by.1
+status-by options valid earlier (EntryIs.Starve worker) end returns none by = inr (status-last earlier (EntryIs.Starve worker) end none)
 
 same-end : (a b : End) → Ended a ≡ Ended b → a ≡ b
 same-end a b e = cc
@@ -198,7 +203,7 @@ returned-told : (options : Options) (valid : ValidModule) (book : Book) (status 
 returned-told options valid book status returns ends has =
     let same : has.end ≡ ends.end = same-end has.end ends.end (sym has.ended ∙ ends.ended) in
     let is : status ≡ told_status (ends.earlier ++ ends.last ∷ []) ends.end = has.status_is ∙ ap (told_status book.entries) same ∙ ap (λ (es : List Entry). told_status es ends.end) ends.entries_are in
-    let by = status-by options valid ends.earlier ends.last ends.end returns ends.no_stall ends.no_starve ends.by in
+    let by = status-by options valid ends.earlier ends.last ends.end returns ends.none_earlier ends.by in
     rw is by
 
 -- a run whose sink did not fail

@@ -14,7 +14,7 @@ use Rattle.lunatic_cli.specs.Ending.{Outcome, RunsModule}
 
 -- a run that is told to its end
 pub headline-of : (content : Option Contents) (name : List ℕ) (options : Options) (m : Parts) (at : Outcome) (finish : Finish) → HasModule content name m → RunsModule options m at finish →
-    finish.status ≢ 3 → finish.status ≢ 5 → finish.status ≢ 8 → HeadlineOfFile content name options at.clocks_before at.clocks_after at.sink.before at.sink.after finish.journal
+    finish.status ≢ 3 → finish.status ≢ 5 → finish.status ≢ 8 → HeadlineOfFile content name options at.outsides at.sink.before at.sink.after finish.journal
 headline-of content name options m at finish has (inl whole) three five eight = elim whole.writes [
   | inl reported ↦ record { module_of_file = m; is_module = has; holds = record { journal = whole.journal; written = reported.written } }
   | inr rest ↦ elim rest [ inl unwritten ↦ absurd (five unwritten.status_is) | inr memory ↦ absurd (eight memory.0) ]

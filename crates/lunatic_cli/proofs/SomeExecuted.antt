@@ -7,10 +7,10 @@ use Rattle.host_port.specs.declared.reply.Reply.{Reply}
 use Rattle.host_port.specs.declared.request.Request.{Request}
 use Rattle.host_port.specs.Standing.{Standing, State, Asking, state_of, MayStep}
 use Rattle.turn_rules.specs.Turn.{Ending, Sliced, Meets, GoesOn, IsTurn}
-use Rattle.journal.specs.declared.halt.Halt.TheVariants as HaltIs
-use Rattle.journal.specs.World.{Process}
-use Rattle.journal.specs.Judge.{local}
-use Rattle.journal.specs.Lives.{Setting, IsWholeTurn}
+use Rattle.world_rules.specs.declared.halt.Halt.TheVariants as HaltIs
+use Rattle.world_rules.specs.World.{Process}
+use Rattle.world_rules.specs.Local.{local}
+use Rattle.world_rules.specs.Lives.{Setting, IsWholeTurn}
 use Rattle.lunatic_cli.specs.Statuses.{AsksSomething}
 
 not-asking : (state : Option State) (ask : Ask) → MayStep state → state ≡ Some (Asking ask) → ⊥
@@ -74,12 +74,20 @@ asked-some at p calls used request may whole =
     subst (λ (e : Ending). IsTurn at (local p.start) p.start.limits.fuel p.part p.calls p.fuel calls used e) whole.halted whole.turn in
     (meets at (local p.start) p.start.limits.fuel p.part p.calls p.fuel calls used request may turn, turn.fueled)
 
+-- where it asks
+pub asked-at : (at : List Call → ℕ → Option Standing) (p : Process) (calls : List Call) (used : ℕ) (request : Request) → IsWholeTurn at p calls used (HaltIs.Asks request) →
+    (cs : List Call) × (fuel : ℕ) × (state_of (at cs fuel) ≡ Some (Asking request.ask))
+asked-at at p calls used request whole =
+    let turn : IsTurn at (local p.start) p.start.limits.fuel p.part p.calls p.fuel calls used (Meets request) =
+    subst (λ (e : Ending). IsTurn at (local p.start) p.start.limits.fuel p.part p.calls p.fuel calls used e) whole.halted whole.turn in
+    (p.calls ++ calls, p.fuel + used, ap state_of turn.ends.0.asking)
+
 -- and it asks something
 pub asked-asks : {P : Type 0} (setting : Setting P) (program : P) (p : Process) (calls : List Call) (used : ℕ) (request : Request) →
-    slice_get setting.programs setting.terms.first.«module» ≡ Some program → p.start ≡ setting.terms.first →
-    IsWholeTurn (setting.at program setting.terms.first) p calls used (HaltIs.Asks request) → AsksSomething setting
+    slice_get setting.programs setting.first.«module» ≡ Some program → p.start ≡ setting.first →
+    IsWholeTurn (setting.at program setting.first) p calls used (HaltIs.Asks request) → AsksSomething setting
 asked-asks setting program p calls used request found started whole =
-    let at = setting.at program setting.terms.first in
+    let at = setting.at program setting.first in
     let turn : IsTurn at (local p.start) p.start.limits.fuel p.part p.calls p.fuel calls used (Meets request) =
     subst (λ (e : Ending). IsTurn at (local p.start) p.start.limits.fuel p.part p.calls p.fuel calls used e) whole.halted whole.turn in
     record { program = program; found = found; calls = p.calls ++ calls; fuel = p.fuel + used; ask = request.ask; asks = ap state_of turn.ends.0.asking }

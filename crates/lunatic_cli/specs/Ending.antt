@@ -2,9 +2,9 @@
 use Rattle.std.specs.Prelude.{◌≡◌, ◌≢◌, ℕ, ◌⊎◌, List, Option, Some, None, IfSome}
 use Rattle.outside.specs.Files.{Contents}
 use Rattle.host_port.specs.declared.start.StartRefusal.{StartRefusal}
-use Rattle.journal.specs.Book.{Book, IsBlank}
-use Rattle.journal.specs.Lives.{Setting}
-use Rattle.journal.specs.Report.{report_text}
+use Rattle.world_rules.specs.Book.{Book, IsBlank}
+use Rattle.world_rules.specs.Lives.{Setting}
+use Rattle.world_rules.specs.Report.{report_text}
 use Rattle.wasm_form.specs.declared.parts.Parts.{Parts}
 use Rattle.module_validator.specs.declared.answer.Verdict.{Verdict}
 use Rattle.module_validator.specs.declared.answer.Verdict.TheVariants.{Accepted}
@@ -14,18 +14,17 @@ use Rattle.lunatic_cli.specs.declared.finish.Finish.{Finish}
 use Rattle.lunatic_cli.specs.Words.{Command, Run, Check}
 use Rattle.lunatic_cli.specs.Statuses.{HasStatus}
 use Rattle.lunatic_cli.specs.File.{HasVerdict, HasModule}
-use Rattle.lunatic_cli.specs.Headline.{OneJournal}
+use Rattle.lunatic_cli.specs.Headline.{Tellings, OneJournal}
 use Rattle.lunatic_cli.specs.Options.{default_options, first_start}
 use Rattle.lunatic_cli.specs.Runs.{run_setting, Returns}
 use Rattle.lunatic_cli.specs.Texts.{words_line, start_line}
 use Rattle.lunatic_cli.specs.Writing.{Written, AppendsAll, AppendsFront, WritesLine}
 use Rattle.lunatic_cli.specs.Checks.{EndsUnjudged, TellsRefused, EndsCheck, CompletesCheck}
 
--- what the outside was and is: the sink, and the clocks of the outsides
+-- what the sink and the outsides told before and after
 pub record Outcome : Type 0 where
   pub sink : Written
-  pub clocks_before : List (Option ℕ)
-  pub clocks_after : List (Option ℕ)
+  pub outsides : Tellings
 
 -- the status is the journal's, which isn't that of want of memory, and its report stands whole
 pub record IsReported (old new : Option (List ℕ)) (book : Book) (status : ℕ) : Type 0 where
@@ -49,7 +48,7 @@ WritesReport old new book status =
 -- the run is over, and what is written is of its journal
 pub record RunsWhole {P : Type 0} (setting : Setting P) (at : Outcome) (finish : Finish) : Type 0 where
   pub begun : finish.start ≡ None
-  pub journal : OneJournal setting at.clocks_before at.clocks_after finish.journal
+  pub journal : OneJournal setting at.outsides finish.journal
   pub writes : WritesReport at.sink.before at.sink.after finish.journal finish.status
 
 -- process 1 can't start so: why, as the module's begin says, with its line; and nothing ran
@@ -101,9 +100,10 @@ Ends content at finish (Some (Check name)) = EndsCheck content name at.sink fini
 
 -- what becomes of a run of the file of this name, want of memory aside, where neither its reading nor a write fails
 pub record CompletesRun (content : Option Contents) (name : List ℕ) (options : Options) (status : ℕ) : Type 0 where
-  -- an accepted module that begins is run to an end of process 1, or until nothing can happen any more
+  -- an accepted module that begins is run to an end of process 1, until nothing can happen any more, or until the run
+  -- is idle for too long
   pub begun : (m : Parts) → HasModule content name m → begin m (first_start options) ≡ None →
-      (status ≡ 0) ⊎ ((status ≡ 1) ⊎ ((status ≡ 6) ⊎ (status ≡ 8)))
+      (status ≡ 0) ⊎ ((status ≡ 1) ⊎ ((status ≡ 6) ⊎ ((status ≡ 7) ⊎ (status ≡ 8))))
   -- it is done where it asks nothing and returns
   pub returned : (m : Parts) → HasModule content name m → Returns options m → (status ≡ 0) ⊎ (status ≡ 8)
   -- an accepted module that doesn't begin is refused

@@ -1,14 +1,16 @@
 -- The processes that an outside is told of, and those that a journal has as taken.
 use Rattle.std.specs.Prelude.{◌≡◌, ℕ, List, [], ◌∷◌, ◌++◌, Option}
 use Rattle.std.specs.Io.KnownBytes.{append_known}
-use Rattle.journal.specs.declared.entry.Entry.{Entry}
-use Rattle.journal.specs.declared.entry.Entry.TheVariants as EntryIs
+use Rattle.world_rules.specs.declared.entry.Entry.{Entry}
+use Rattle.world_rules.specs.declared.entry.Entry.TheVariants as EntryIs
 
 -- the process that the entry takes, if it does
 abbrev pub taken_by : Entry → List ℕ
 taken_by (EntryIs.Take worker pid) = pid ∷ []
 taken_by (EntryIs.Give worker pid calls fuel halt side) = []
+taken_by (EntryIs.Tick worker now) = []
 taken_by (EntryIs.Stall worker) = []
+taken_by (EntryIs.Idle worker) = []
 taken_by (EntryIs.Starve worker) = []
 
 -- the processes that the entries take, in their order

@@ -7,8 +7,10 @@ pub mod Checks
 pub mod Times
 pub mod Entering
 pub mod Statuses
+pub mod Quiet
 pub mod Resting
 pub mod Options
 pub mod Runs
 pub mod Headline
 pub mod Ending
+pub mod Scripts

@@ -1,13 +1,12 @@
 -- The options of a run, and what it is over.
 use Rattle.std.specs.Prelude.{[], codes}
 use Rattle.host_port.specs.declared.start.Start.{Start}
-use Rattle.journal.specs.Allowed.{Terms}
 use Rattle.lunatic_cli.specs.declared.options.Options.{Options}
 
 -- the options of a run whose words name none: process 1 enters `_start`; it may have 64 pages, burn 1,000,000,000 of
--- fuel, and have 67,108,864 of traffic, which is a cost, 64 for each call plus the lengths of its areas, and is not
--- counted yet; at most 1,024 processes that have not ended at once; and a run may be idle for 100,000: so many Pending
--- gives and early Ticks in a row, Takes left aside
+-- fuel, and have 67,108,864 of traffic, which is a cost, 64 for each call plus the lengths of its areas; at most 1,024
+-- processes that have not ended at once; and a run may be idle for 100,000: so many Pending gives and early Ticks in a
+-- row, Takes left aside
 abbrev pub default_options : Options
 default_options = record {
   workers = 1;
@@ -20,7 +19,3 @@ default_options = record {
 -- process 1 enters the entry function of module 0 without parameters, within these limits
 abbrev pub first_start : Options → Start
 first_start options = record { pid = 1; «module» = 0; entry = options.entry; params = []; limits = options.limits }
-
--- so process 1 starts, so many processes that have not ended there may be at once, and a run may be idle so long
-abbrev pub terms_of : Options → Terms
-terms_of options = record { first = first_start options; live = options.live; idle = options.idle }

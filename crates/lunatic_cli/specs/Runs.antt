@@ -1,15 +1,15 @@
 -- What the run of a module is over.
 use Rattle.std.specs.Prelude.{◌≡◌, ℕ, [], ◌∷◌, Some}
 use Rattle.host_port.specs.Standing.{Finished, state_of}
-use Rattle.journal.specs.declared.life.Birth.TheVariants.{Born}
-use Rattle.journal.specs.Lives.{Setting}
+use Rattle.world_rules.specs.declared.life.Birth.TheVariants.{Born}
+use Rattle.world_rules.specs.Lives.{Setting}
 use Rattle.process_table.specs.Seen.{Seen}
 use Rattle.wasm_form.specs.declared.parts.Parts.{Parts}
 use Rattle.module_validator.specs.ValidModule.{ValidModule}
 use Rattle.tree_machine.specs.Begin as begins
 use Rattle.tree_machine.specs.Run as runs
 use Rattle.lunatic_cli.specs.declared.options.Options.{Options}
-use Rattle.lunatic_cli.specs.Options.{first_start, terms_of}
+use Rattle.lunatic_cli.specs.Options.{first_start}
 
 -- a run of this one module: why it doesn't start, and where it stands after calls and fuel, are the definition's
 abbrev pub run_setting : Options → Parts → Setting Parts
@@ -17,7 +17,9 @@ run_setting options m = record {
   programs = m ∷ [];
   begin = begins.begin;
   at = runs.at;
-  terms = terms_of options;
+  first = first_start options;
+  live = options.live;
+  idle = options.idle;
 }
 
 -- the same of an accepted module, with the map of its code
@@ -26,7 +28,9 @@ valid_setting options valid = record {
   programs = valid ∷ [];
   begin = λ v start. begins.begin v.parts start;
   at = λ v start. runs.at v.parts start;
-  terms = terms_of options;
+  first = first_start options;
+  live = options.live;
+  idle = options.idle;
 }
 
 -- a node in which process 1 is born on this module, and nothing has happened

@@ -1,22 +1,23 @@
 -- The times that a journal records, and what the outsides of a run keep.
 use Rattle.std.specs.Prelude.{ℕ, ◌≤◌, List, [], ◌∷◌, ◌++◌, Option, All, Any, IsSome, IsSomeAnd, IfSome}
 use Rattle.outside.specs.Makes.{GoesNotBack}
-use Rattle.journal.specs.declared.entry.Entry.{Entry}
-use Rattle.journal.specs.declared.entry.Entry.TheVariants as EntryIs
-use Rattle.journal.specs.declared.entry.Side.{Side}
-use Rattle.journal.specs.declared.entry.Side.TheVariants as SideIs
+use Rattle.world_rules.specs.declared.entry.Entry.{Entry}
+use Rattle.world_rules.specs.declared.entry.Entry.TheVariants as EntryIs
+use Rattle.world_rules.specs.declared.entry.Side.{Side}
+use Rattle.world_rules.specs.declared.entry.Side.TheVariants as SideIs
 
 -- the time that came with a Give, if one did
 abbrev pub time_beside : Side → List ℕ
-time_beside SideIs.Nothing = []
 time_beside (SideIs.Clock now) = now ∷ []
-time_beside SideIs.NoMemory = []
+time_beside _ = []
 
 -- the time that an entry records, if it does
 abbrev pub time_of : Entry → List ℕ
 time_of (EntryIs.Take worker pid) = []
 time_of (EntryIs.Give worker pid calls fuel halt side) = time_beside side
+time_of (EntryIs.Tick worker now) = now ∷ []
 time_of (EntryIs.Stall worker) = []
+time_of (EntryIs.Idle worker) = []
 time_of (EntryIs.Starve worker) = []
 
 -- the times that the entries record, in their order

@@ -1,5 +1,5 @@
 ghost use Rattle.std.specs.Prelude.{◌≡◌, None};
-ghost use Rattle.journal.specs.Book.{IsBlank};
+ghost use Rattle.world_rules.specs.Book.{IsBlank};
 
 use host_port::StartRefusal;
 use journal::Journal;
@@ -82,6 +82,9 @@ pub const SINK: u8 = 5;
 
 /// Nothing could happen any more.
 pub const STALLED: u8 = 6;
+
+/// The run was idle for too long.
+pub const IDLE: u8 = 7;
 
 /// Memory is wanting.
 pub const MEMORY: u8 = 8;

@@ -33,6 +33,8 @@ pub use top_call::lunatic;
 #[cfg(test)]
 mod check_tests;
 #[cfg(test)]
+mod data_tests;
+#[cfg(test)]
 mod row_tests;
 #[cfg(test)]
 mod tests;

@@ -14,7 +14,7 @@ const PAGES: u32 = 64;
 /// The most fuel of process 1's life.
 const FUEL: u64 = 1_000_000_000;
 
-/// The most traffic of process 1's calls: each call costs 64 and the lengths of its areas. It is not counted yet.
+/// The most traffic of process 1's calls: each call costs 64 and the lengths of its areas.
 const TRAFFIC: u64 = 67_108_864;
 
 /// The most processes that have not ended, at once.
@@ -30,12 +30,11 @@ pub struct Options {
     pub workers: u8,
     /// The name of the function that process 1 enters.
     pub entry: Bytes,
-    /// What process 1 may use. Traffic is a cost, 64 for each call plus the lengths of its areas, and is not counted
-    /// yet.
+    /// What process 1 may use. Traffic is a cost, 64 for each call plus the lengths of its areas.
     pub limits: Limits,
     /// The most processes that have not ended, at once.
     pub live: u32,
-    /// How long a run may be idle: so many Pending gives and early Ticks in a row, Takes left aside.
+    /// How long a run may be idle: so many Pending gives and early Ticks in a row, Takes left aside. It is at least 1.
     pub idle: u64,
 }
 

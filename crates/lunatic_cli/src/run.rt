@@ -1,15 +1,16 @@
-ghost use Rattle.std.specs.Prelude.{◌≡◌, ◌≢◌, ◌<◌, ◌≤◌, ◌⊎◌, ◌↔◌, Some, IsSome, [], map, vec_len};
+ghost use Rattle.std.specs.Prelude.{◌≡◌, ◌≢◌, ◌<◌, ◌≤◌, ◌⊎◌, ◌↔◌, Some, IsSome, [], true, false, map, vec_len};
+ghost use Rattle.std.specs.List.{list_any};
 ghost use Rattle.outside.specs.Causes.{RoseOrFull, Stayed, StayedBelow};
-ghost use Rattle.journal.specs.Lives.{Setting};
-ghost use Rattle.journal.specs.Report.{IsReportable};
-ghost use Rattle.journal.specs.Runs.{told};
+ghost use Rattle.world_rules.specs.Lives.{Setting};
+ghost use Rattle.world_rules.specs.Report.{IsReportable};
+ghost use Rattle.world_rules.specs.Told.{told};
 ghost use Rattle.process_table.specs.Seen.{setting_of};
 ghost use Rattle.wasm_form.specs.declared.parts.Parts.{Parts};
 ghost use Rattle.module_validator.specs.ValidModule.{ValidModule};
 ghost use Rattle.tree_machine.specs.Begin.{begin};
 ghost use Rattle.lunatic_cli.specs.declared.options.Options.{Options as Opts};
 ghost use Rattle.lunatic_cli.specs.Ending.{WritesReport, RefusesStart, RunsNothing, RunsModule};
-ghost use Rattle.lunatic_cli.specs.Statuses.{EndsByLast};
+ghost use Rattle.lunatic_cli.specs.Statuses.{is_stall, is_idle, EndsByLast};
 ghost use Rattle.lunatic_cli.specs.Headline.{OneJournal};
 ghost use Rattle.lunatic_cli.specs.Options.{first_start};
 ghost use Rattle.lunatic_cli.specs.Runs.{Returns};
@@ -38,8 +39,13 @@ fn run_first<E: Engine, O: Outside>(
 ) -> Journal
     requires some { 0 < vec_len outsides.old }
     requires blank { node.book.entries ≡ [] }
-    ensures journal { OneJournal (setting_of E.begin E.at node)
-        (map O.clock outsides.old.items) (map O.clock outsides.new.items) result }
+    requires idle { 1 ≤ node.idle }
+    ensures journal { OneJournal (setting_of E.begin E.at node) (record {
+      clocks_before = map O.clock outsides.old.items;
+      clocks_after = map O.clock outsides.new.items;
+      rests_before = map O.rests outsides.old.items;
+      rests_after = map O.rests outsides.new.items;
+    }) result }
     ensures ended { EndsByLast (setting_of E.begin E.at node) (told result) result.entries }
     ensures clocks { NoneGoesBack (map O.clock outsides.old.items) (map O.clock outsides.new.items) }
     ensures faults { NoneFalls (map O.faults outsides.old.items) (map O.faults outsides.new.items) }
@@ -108,6 +114,7 @@ pub fn run<K: Sink, O: Outside>(
     options: &Options,
 ) -> Finish
     requires some { 0 < vec_len outsides.old }
+    requires idle { 1 ≤ options.now.idle }
     ensures verdict { result.verdict ≡ Some Verdict.Accepted }
     ensures runs { RunsModule options.now valid.parts (record {
       sink = record {
@@ -116,11 +123,18 @@ pub fn run<K: Sink, O: Outside>(
         before = K.written out.old;
         after = K.written out.new;
       };
-      clocks_before = map O.clock outsides.old.items;
-      clocks_after = map O.clock outsides.new.items;
+      outsides = record {
+        clocks_before = map O.clock outsides.old.items;
+        clocks_after = map O.clock outsides.new.items;
+        rests_before = map O.rests outsides.old.items;
+        rests_after = map O.rests outsides.new.items;
+      };
     }) result }
     ensures returned { Returns options.now valid.parts → StayedBelow (K.faults out.old) (K.faults out.new)
         → (result.status ≡ 0) ⊎ (result.status ≡ 8) }
+    // Nothing can happen any more, or the run was idle for too long, and not both.
+    ensures one_cause { list_any is_stall result.journal.entries ≡ true →
+        list_any is_idle result.journal.entries ≡ false }
     ensures refused { (result.status ≡ 3) ↔ IsSome result.start }
     ensures unstarted { IsSome result.start → outsides.new.items ≡ outsides.old.items }
     ensures unwritten { result.status ≡ 5 → RoseOrFull (K.faults out.old) (K.faults out.new) }

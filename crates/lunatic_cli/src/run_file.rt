@@ -1,12 +1,12 @@
 ghost use Rattle.std.specs.Prelude.{◌≡◌, ◌≢◌, ◌<◌, ◌≤◌, ◌⊎◌, ◌↔◌, ℕ, List, Option, Some, IfOk, IfErr, IsSome, IsSomeAnd, None, true, map, vec_len};
 ghost use Rattle.std.specs.List.{list_any};
 ghost use Rattle.outside.specs.Causes.{Rose, RoseOrFull, Stayed, StayedBelow};
-ghost use Rattle.journal.specs.Book.{IsBlank};
+ghost use Rattle.world_rules.specs.Book.{IsBlank};
 ghost use Rattle.lunatic_cli.specs.declared.options.Options.{Options as Opts};
 ghost use Rattle.lunatic_cli.specs.File.{HasModule, TellsUnread};
-ghost use Rattle.lunatic_cli.specs.Headline.{HeadlineOfFile};
+ghost use Rattle.lunatic_cli.specs.Headline.{Tellings, HeadlineOfFile};
 ghost use Rattle.lunatic_cli.specs.Ending.{EndsRun, RunCompletes};
-ghost use Rattle.lunatic_cli.specs.Statuses.{is_stall, is_starve};
+ghost use Rattle.lunatic_cli.specs.Statuses.{is_stall, is_idle, is_starve};
 ghost use Rattle.lunatic_cli.specs.Times.{NoneFalls, NoneGoesBack};
 
 use crate::judge::{JudgedFile, judge};
@@ -29,7 +29,7 @@ fn module_to_run<F: Files, K: Sink>(
 ) -> Result<Valid, Finish>
     ensures accepted { IfOk result (λ valid. HasModule (F.content files.old) name.now valid.parts) }
     ensures silent { IfOk result (λ _. out.new ≡ out.old) }
-    ensures ends { IfErr result (λ finish. (options : Opts) (before after : List (Option ℕ)) →
+    ensures ends { IfErr result (λ finish. (options : Opts) (outsides : Tellings) →
         EndsRun (F.content files.old) name.now options (record {
           sink = record {
             faults_before = K.faults out.old;
@@ -37,8 +37,7 @@ fn module_to_run<F: Files, K: Sink>(
             before = K.written out.old;
             after = K.written out.new;
           };
-          clocks_before = before;
-          clocks_after = after;
+          outsides = outsides;
         }) finish finish.verdict) }
     ensures unaccepted { IfErr result (λ finish. finish.verdict ≢ Some Verdict.Accepted) }
     ensures unstarted { IfErr result (λ finish. finish.start ≡ None) }
@@ -80,7 +79,8 @@ fn module_to_run<F: Files, K: Sink>(
 ///
 /// The status is 0 where process 1 returned, 1 where it ended otherwise, 3 where the module or process 1's start is
 /// refused, 4 where the file is missing, longer than 16,777,216 bytes, or its reading failed, 6 where nothing could
-/// happen any more, 5 in place of 0, 1 and 6 where the sink failed, and 8 for want of memory.
+/// happen any more, 7 where the run was idle for too long, 5 in place of 0, 1, 6 and 7 where the sink failed, and 8 for
+/// want of memory.
 pub fn run_call<F: Files, K: Sink, O: Outside>(
     alloc: Global,
     files: &mut F,
@@ -91,11 +91,16 @@ pub fn run_call<F: Files, K: Sink, O: Outside>(
 ) -> Finish
     requires some { 0 < vec_len outsides.old }
     requires one_worker { options.now.workers ≡ 1 }
+    requires idle { 1 ≤ options.now.idle }
 
     // Where a run is told to its end, what is written is the report of one journal.
     ensures headline { result.status ≢ 3 → result.status ≢ 4 → result.status ≢ 5 → result.status ≢ 8 →
-        HeadlineOfFile (F.content files.old) name.now options.now
-        (map O.clock outsides.old.items) (map O.clock outsides.new.items)
+        HeadlineOfFile (F.content files.old) name.now options.now (record {
+          clocks_before = map O.clock outsides.old.items;
+          clocks_after = map O.clock outsides.new.items;
+          rests_before = map O.rests outsides.old.items;
+          rests_after = map O.rests outsides.new.items;
+        })
         (K.written out.old) (K.written out.new) result.journal }
 
     // What is judged and what is written, with each status.
@@ -106,12 +111,19 @@ pub fn run_call<F: Files, K: Sink, O: Outside>(
         before = K.written out.old;
         after = K.written out.new;
       };
-      clocks_before = map O.clock outsides.old.items;
-      clocks_after = map O.clock outsides.new.items;
+      outsides = record {
+        clocks_before = map O.clock outsides.old.items;
+        clocks_after = map O.clock outsides.new.items;
+        rests_before = map O.rests outsides.old.items;
+        rests_after = map O.rests outsides.new.items;
+      };
     }) result result.verdict }
     ensures stalled { list_any is_stall result.journal.entries ≡ true →
         (result.status ≡ 6) ⊎ ((result.status ≡ 5) ⊎ (result.status ≡ 8)) }
     ensures stalls { result.status ≡ 6 → list_any is_stall result.journal.entries ≡ true }
+    ensures idled { list_any is_idle result.journal.entries ≡ true →
+        (result.status ≡ 7) ⊎ ((result.status ≡ 5) ⊎ (result.status ≡ 8)) }
+    ensures idles { result.status ≡ 7 → list_any is_idle result.journal.entries ≡ true }
     ensures starved { list_any is_starve result.journal.entries ≡ true → result.status ≡ 8 }
     ensures blank { result.verdict ≢ Some Verdict.Accepted → IsBlank result.journal }
     ensures blank_unstarted { IsSome result.start → IsBlank result.journal }

@@ -1,10 +1,10 @@
-ghost use Rattle.std.specs.Prelude.{◌≡◌, IsTrue, [], IfOk};
-ghost use Rattle.process_table.specs.Rows.{are_served};
-ghost use Rattle.journal.specs.Report.{IsReportable};
+ghost use Rattle.std.specs.Prelude.{◌≡◌, ◌≤◌, IsTrue, [], IfOk};
+ghost use Rattle.lunatic_cli.specs.Scripts.{are_served};
+ghost use Rattle.world_rules.specs.Report.{IsReportable};
 
 use crate::{Verdict, lunatic, run_alone};
 use host_port::{Ask, Bytes, Limits, Params, Start, StartRefusal};
-use journal::{Birth, Ended, Entry, Halt, Journal, Side, report};
+use journal::{Journal, report};
 use outside::{
     AcceptStep, BlankListener, BlankStream, MakeStep, MemFiles, MemOutside, MemSink, Outside, raise,
 };
@@ -13,6 +13,7 @@ use script_engine::{Script, ScriptEngine};
 use std::alloc::{AllocError, Global};
 use std::sync::Arc;
 use std::test::Fail;
+use world_rules::{Birth, Ended, Entry, Halt, Side};
 
 /// One function, which drops one constant.
 const FIRST: [u8; 39] = [
@@ -270,7 +271,8 @@ fn ask(call: u8, first: u64, second: u64, third: u64) -> Ask
 /// A node whose process 1 asks these, and returns.
 fn script_node<O: Outside>(alloc: Global, asks: Vec<Ask>) -> Result<Node<ScriptEngine, O>, Fail>
     requires { IsTrue (are_served asks.items) }
-    ensures { IfOk result (λ node. node.book.entries ≡ []) }
+    ensures blank { IfOk result (λ node. node.book.entries ≡ []) }
+    ensures idle { IfOk result (λ node. 1 ≤ node.idle) }
 {
     let mut programs = Vec::new(alloc);
     programs.push(Arc::new(alloc, Script { asks, end: None })?)?;
@@ -386,7 +388,7 @@ fn recorded(alloc: Global, asks: Vec<Ask>) -> Result<Recorder, Fail>
     Ok(outside)
 }
 
-// A round rests where its give was pending or nothing could be taken, and neither comes to pass with one process.
+// A round rests where nothing could be taken after a Tick, and a wait without an end has none.
 #[test]
 fn the_process_of_each_turn_is_entered_and_no_round_rests(rt: HostRuntime) -> Result<(), Fail> {
     let alloc = rt.alloc();

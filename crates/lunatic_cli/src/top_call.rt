@@ -1,13 +1,13 @@
 ghost use Rattle.std.specs.Prelude.{◌≡◌, ◌≢◌, ◌≤◌, ◌⊎◌, ◌↔◌, ℕ, List, Some, None, IfSome, IsSome, IsSomeAnd, true, map, string_bytes, vec_len};
 ghost use Rattle.std.specs.List.{list_any};
 ghost use Rattle.outside.specs.Causes.{Rose, RoseOrFull, Stayed, StayedBelow};
-ghost use Rattle.journal.specs.Book.{IsBlank};
+ghost use Rattle.world_rules.specs.Book.{IsBlank};
 ghost use Rattle.lunatic_cli.specs.Words.{Run, Check, command_of, file_of};
 ghost use Rattle.lunatic_cli.specs.File.{TellsUnread};
 ghost use Rattle.lunatic_cli.specs.Headline.{HeadlineOfFile};
 ghost use Rattle.lunatic_cli.specs.Ending.{Ends, Completes};
 ghost use Rattle.lunatic_cli.specs.Options.{default_options};
-ghost use Rattle.lunatic_cli.specs.Statuses.{is_stall, is_starve};
+ghost use Rattle.lunatic_cli.specs.Statuses.{is_stall, is_idle, is_starve};
 ghost use Rattle.lunatic_cli.specs.Times.{NoneFalls, NoneGoesBack};
 
 use crate::check::check_call;
@@ -34,8 +34,12 @@ pub fn lunatic<F: Files, K: Sink, O: Outside>(
     // Where a run is told to its end, what is written is the report of one journal.
     ensures headline { (name : List ℕ) → command_of (map string_bytes words.now) ≡ Some (Run name)
         → result.status ≢ 3 → result.status ≢ 4 → result.status ≢ 5 → result.status ≢ 8 →
-        HeadlineOfFile (F.content files.old) name default_options
-        (map O.clock outsides.old.items) (map O.clock outsides.new.items)
+        HeadlineOfFile (F.content files.old) name default_options (record {
+          clocks_before = map O.clock outsides.old.items;
+          clocks_after = map O.clock outsides.new.items;
+          rests_before = map O.rests outsides.old.items;
+          rests_after = map O.rests outsides.new.items;
+        })
         (K.written out.old) (K.written out.new) result.journal }
 
     // What is judged and what is written, with each status.
@@ -46,12 +50,19 @@ pub fn lunatic<F: Files, K: Sink, O: Outside>(
         before = K.written out.old;
         after = K.written out.new;
       };
-      clocks_before = map O.clock outsides.old.items;
-      clocks_after = map O.clock outsides.new.items;
+      outsides = record {
+        clocks_before = map O.clock outsides.old.items;
+        clocks_after = map O.clock outsides.new.items;
+        rests_before = map O.rests outsides.old.items;
+        rests_after = map O.rests outsides.new.items;
+      };
     }) result (command_of (map string_bytes words.now)) }
     ensures stalled { list_any is_stall result.journal.entries ≡ true →
         (result.status ≡ 6) ⊎ ((result.status ≡ 5) ⊎ (result.status ≡ 8)) }
     ensures stalls { result.status ≡ 6 → list_any is_stall result.journal.entries ≡ true }
+    ensures idled { list_any is_idle result.journal.entries ≡ true →
+        (result.status ≡ 7) ⊎ ((result.status ≡ 5) ⊎ (result.status ≡ 8)) }
+    ensures idles { result.status ≡ 7 → list_any is_idle result.journal.entries ≡ true }
     ensures starved { list_any is_starve result.journal.entries ≡ true → result.status ≡ 8 }
     ensures blank { result.verdict ≢ Some Verdict.Accepted → IsBlank result.journal }
     ensures blank_unstarted { IsSome result.start → IsBlank result.journal }

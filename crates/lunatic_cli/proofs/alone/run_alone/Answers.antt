@@ -1,26 +1,30 @@
-use Rattle.std.proofs.Common.{[], refl, ap, arith, append-nil, ◌∙◌}
-use Rattle.journal.specs.Book.{Book}
-use Rattle.journal.specs.World.{is_away}
-use Rattle.journal.specs.Runs.{told}
+use Rattle.std.proofs.Common.{[], refl, ap, sym, subst, arith, ◌∙◌}
+use Rattle.world_rules.specs.Book.{Book}
+use Rattle.world_rules.specs.World.{is_away}
+use Rattle.world_rules.specs.Told.{told}
 use Rattle.process_table.specs.Seen.{setting_of, world_of}
 use Rattle.lunatic_cli.specs.Times.{times_of}
 use Rattle.lunatic_cli.proofs.Clocks.{between-none, between-both, not-back-refl, not-back-then}
 use Rattle.lunatic_cli.specs.Entering.{takes_of}
 use Rattle.lunatic_cli.proofs.Entered.{enters-none, enters-both}
 use Rattle.lunatic_cli.proofs.Rounds.{all-home}
-use Rattle.lunatic_cli.proofs.Steps.{rest-first, ended-over, same-then}
+use Rattle.lunatic_cli.proofs.Steps.{rest-first, rounds-of, ended-over, same-then}
+use Rattle.lunatic_cli.proofs.Ticking.{rested-first, rested-more, rested-last}
+use Rattle.lunatic_cli.specs.Quiet.{quiet_in, HasRested}
+use Rattle.world_rules.specs.Legal.{Rounds}
 use Rattle.lunatic_cli.proofs.alone.run_alone.Goals as goal
 
 pub loop-alloc-init : goal.loop-alloc-init
 loop-alloc-init g c = record {
   same = record { programs = refl; live = refl; idle = refl; births = refl };
-  rest = rest-first g.E.Engine.begin g.E.Engine.at c.args.node c.requires;
-  times = rw c.requires (between-none _ _);
-  entered = rw c.requires (enters-none _);
+  rest = rest-first g.E.Engine.begin g.E.Engine.at c.args.node c.requires.blank c.requires.idle;
+  times = rw c.requires.blank (between-none _ _);
+  entered = rw c.requires.blank (enters-none _);
   clock = not-back-refl _;
   faults = omega arith;
   waits = omega arith;
   rests = omega arith;
+  rested = rested-first c.args.node.book _ c.requires.blank;
 }
 
 pub loop-alloc-preserved : goal.loop-alloc-preserved
@@ -36,17 +40,23 @@ loop-alloc-preserved g c =
       faults = omega (arith, before.faults, round.faults);
       waits = omega (arith, before.waits, round.waits);
       rests = omega (arith, before.rests, round.rests);
+      rested = rw round.rested.1 (rested-more _ _ _ (quiet_in c.loop-alloc.node.book) round.rested.0 before.rested (round.rested.3 c.loop-alloc-test.true));
     }
 
 pub returns-clause-home : goal.returns-clause-home
 returns-clause-home g c pid =
-    let home = all-home (setting_of g.E.Engine.begin g.E.Engine.at c.go_round.new.node) (world_of c.go_round.new.node) c.go_round.new.node.book.entries c.go_round.ensures.rest pid in
+    let home = all-home (setting_of g.E.Engine.begin g.E.Engine.at c.go_round.new.node) (world_of c.go_round.new.node) c.go_round.ensures.rest.at_home pid in
     ap (λ (b : Book). is_away ((told b).process pid).stage) c.close.ensures.journal ∙ home
 
 pub returns-clause-rounds : goal.returns-clause-rounds
 returns-clause-rounds g c =
-    let rounds = c.go_round.ensures.rest.rounds [] tt in
-    rw c.close.ensures.journal (rw append-nil at rounds)
+    subst (λ (b : Book). Rounds b) (sym c.close.ensures.journal) (rounds-of g.E.Engine.begin g.E.Engine.at c.go_round.new.node c.go_round.ensures.rest)
+
+pub returns-clause-rested : goal.returns-clause-rested
+returns-clause-rested g c =
+    let before = c.loop-alloc.invariant in
+    let round = c.go_round.ensures in
+    rw (c.close.ensures.journal, round.rested.1) (rested-last _ _ _ (quiet_in c.loop-alloc.node.book) round.rested.0 before.rested round.rests round.rested.2)
 
 pub returns-clause-ended : goal.returns-clause-ended
 returns-clause-ended g c =

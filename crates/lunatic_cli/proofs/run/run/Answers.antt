@@ -1,21 +1,27 @@
 use Rattle.std.proofs.Common.{map, subst, inl, inr, refl}
-use Rattle.journal.specs.LifeLaws.{IsRun-reportable}
-use Rattle.journal.specs.Lives.{Setting}
-use Rattle.journal.specs.Runs.{told}
+use Rattle.world_rules.specs.laws.LifeLaws.{run_reportable}
+use Rattle.world_rules.specs.Lives.{Setting}
+use Rattle.world_rules.specs.Told.{told}
 use Rattle.module_validator.specs.ValidModule.{ValidModule}
-use Rattle.lunatic_cli.specs.Headline.{OneJournal}
-use Rattle.lunatic_cli.specs.Statuses.{EndsByLast}
+use Rattle.lunatic_cli.specs.Headline.{Tellings, OneJournal}
+use Rattle.lunatic_cli.specs.Statuses.{is_stall, EndsByLast}
 use Rattle.lunatic_cli.proofs.FirstNode.{setting-valid}
 use Rattle.lunatic_cli.proofs.OneModule.{journal-of-parts}
 use Rattle.lunatic_cli.proofs.Outsides.{falls-refl, goes-refl}
 use Rattle.lunatic_cli.proofs.Returned.{done-or-memory, unstarted-memory}
-use Rattle.lunatic_cli.proofs.Told.{reports-told, told-ran}
+use Rattle.lunatic_cli.proofs.LastEntries.{stall-or-idle}
+use Rattle.lunatic_cli.proofs.Told.{reports-told, told-ran, unstarted-blank}
 use Rattle.lunatic_cli.proofs.run.run.Goals as goal
 
 -- process 1 can't start
 
 pub returns-in-Err-clause-runs : goal.returns-in-Err-clause-runs
 returns-in-Err-clause-runs g c = inr (c.end_unstarted.ensures.ends c.args.options.now c.args.valid.parts c.in-Err.ensures.refused)
+
+pub returns-in-Err-clause-one_cause : goal.returns-in-Err-clause-one_cause
+returns-in-Err-clause-one_cause g c stall =
+    unstarted-blank is_stall c.args.options.now c.args.valid.parts _ c.end_unstarted.result
+    (c.end_unstarted.ensures.ends c.args.options.now c.args.valid.parts c.in-Err.ensures.refused) stall
 
 pub returns-in-Err-clause-returned : goal.returns-in-Err-clause-returned
 returns-in-Err-clause-returned g c returns stayed =
@@ -37,16 +43,20 @@ returns-in-Err-clause-rests g c = falls-refl (map g.O.Outside.rests c.args.outsi
 
 pub write_report-status-requires-clause-reportable : goal.write_report-status-requires-clause-reportable
 write_report-status-requires-clause-reportable g c =
-    IsRun-reportable _ c.run_first-journal.result c.run_first-journal.ensures.journal.journal_is_run
+    run_reportable _ c.run_first-journal.result c.run_first-journal.ensures.journal.journal_is_run
 
 pub returns-clause-runs : goal.returns-clause-runs
 returns-clause-runs g c =
-    let before = map g.O.Outside.clock c.args.outsides.now.items in
-    let after = map g.O.Outside.clock c.run_first-journal.new.outsides.items in
+    let told : Tellings = record {
+      clocks_before = map g.O.Outside.clock c.args.outsides.now.items;
+      clocks_after = map g.O.Outside.clock c.run_first-journal.new.outsides.items;
+      rests_before = map g.O.Outside.rests c.args.outsides.now.items;
+      rests_after = map g.O.Outside.rests c.run_first-journal.new.outsides.items;
+    } in
     inl (record {
       begun = refl;
-      journal = journal-of-parts c.args.options.now c.args.valid before after c.run_first-journal.result
-          (subst (λ (s : Setting ValidModule). OneJournal s before after c.run_first-journal.result)
+      journal = journal-of-parts c.args.options.now c.args.valid told c.run_first-journal.result
+          (subst (λ (s : Setting ValidModule). OneJournal s told c.run_first-journal.result)
           (setting-valid c.args.options.now c.args.valid c.in-Ok.node c.in-Ok.ensures.made) c.run_first-journal.ensures.journal);
       writes = c.write_report-status.ensures.writes;
     })
@@ -57,6 +67,9 @@ returns-clause-returned g c returns stayed =
     (setting-valid c.args.options.now c.args.valid c.in-Ok.node c.in-Ok.ensures.made) c.run_first-journal.ensures.ended in
     done-or-memory c.args.options.now c.args.valid c.run_first-journal.result c.write_report-status.result _ _ _ _ returns ended
     c.write_report-status.ensures.writes c.write_report-status.ensures.unwritten stayed
+
+pub returns-clause-one_cause : goal.returns-clause-one_cause
+returns-clause-one_cause g c = stall-or-idle _ c.run_first-journal.result c.run_first-journal.ensures.ended
 
 pub returns-clause-refused : goal.returns-clause-refused
 returns-clause-refused g c = (

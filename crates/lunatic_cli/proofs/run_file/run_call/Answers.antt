@@ -2,7 +2,7 @@ use Rattle.std.proofs.Common.{map}
 use Rattle.lunatic_cli.proofs.Completions.{module_completes, judged_is_read}
 use Rattle.lunatic_cli.proofs.Outsides.{falls-refl, goes-refl}
 use Rattle.lunatic_cli.proofs.RunFile.{headline-of, refused-run, refused-unrun}
-use Rattle.lunatic_cli.proofs.Told.{runs-read, begun-told, unbegun-refused, stalled-by, stalls-by, starved-by}
+use Rattle.lunatic_cli.proofs.Told.{runs-read, begun-told, unbegun-refused, stalled-by, stalls-by, idled-by, idles-by, starved-by}
 use Rattle.lunatic_cli.proofs.run_file.run_call.Goals as goal
 
 -- an accepted module
@@ -17,10 +17,16 @@ returns-in-Ok-clause-ends g c =
     rw c.run.ensures.verdict (record { module_of_file = c.in-Ok.valid.parts; file = c.in-Ok.ensures.accepted; run = run })
 
 pub returns-in-Ok-clause-stalled : goal.returns-in-Ok-clause-stalled
-returns-in-Ok-clause-stalled g c stall = stalled-by c.args.options.now c.in-Ok.valid.parts _ c.run.result c.run.ensures.runs stall
+returns-in-Ok-clause-stalled g c stall = stalled-by c.args.options.now c.in-Ok.valid.parts _ c.run.result c.run.ensures.runs stall (c.run.ensures.one_cause stall)
 
 pub returns-in-Ok-clause-stalls : goal.returns-in-Ok-clause-stalls
 returns-in-Ok-clause-stalls g c six = stalls-by c.args.options.now c.in-Ok.valid.parts _ c.run.result c.run.ensures.runs six
+
+pub returns-in-Ok-clause-idled : goal.returns-in-Ok-clause-idled
+returns-in-Ok-clause-idled g c idle = idled-by c.args.options.now c.in-Ok.valid.parts _ c.run.result c.run.ensures.runs idle
+
+pub returns-in-Ok-clause-idles : goal.returns-in-Ok-clause-idles
+returns-in-Ok-clause-idles g c seven = idles-by c.args.options.now c.in-Ok.valid.parts _ c.run.result c.run.ensures.runs seven
 
 pub returns-in-Ok-clause-starved : goal.returns-in-Ok-clause-starved
 returns-in-Ok-clause-starved g c starve = starved-by c.args.options.now c.in-Ok.valid.parts _ c.run.result c.run.ensures.runs starve
@@ -46,7 +52,12 @@ returns-in-Ok-clause-unread_told g c =
 
 pub returns-in-Err-clause-ends : goal.returns-in-Err-clause-ends
 returns-in-Err-clause-ends g c =
-    c.in-Err.ensures.ends c.args.options.now (map g.O.Outside.clock c.args.outsides.now.items) (map g.O.Outside.clock c.args.outsides.now.items)
+    c.in-Err.ensures.ends c.args.options.now (record {
+      clocks_before = map g.O.Outside.clock c.args.outsides.now.items;
+      clocks_after = map g.O.Outside.clock c.args.outsides.now.items;
+      rests_before = map g.O.Outside.rests c.args.outsides.now.items;
+      rests_after = map g.O.Outside.rests c.args.outsides.now.items;
+    })
 
 pub returns-in-Err-clause-refused : goal.returns-in-Err-clause-refused
 returns-in-Err-clause-refused g c =

@@ -1,8 +1,9 @@
 use Rattle.std.proofs.Common.{◌≡◌, ℕ, List, [], ◌∷◌, ◌++◌, map, Any, true, ap, sym, subst, ◌∙◌}
 use Rattle.std.specs.Arc.{arc_value}
 use Rattle.script_engine.specs.declared.script.Script.{Script}
-use Rattle.process_table.specs.Rows.{AllHaveRows, are_served}
-use Rattle.process_table.proofs.Scripts.{served-script}
+use Rattle.node_state.specs.Rows.{AllHaveRows}
+use Rattle.lunatic_cli.specs.Scripts.{are_served}
+use Rattle.lunatic_cli.proofs.ScriptRows.{served-script}
 use Rattle.lunatic_cli.proofs.tests.script_node.Goals as goal
 
 -- a script whose asks are served is the only program

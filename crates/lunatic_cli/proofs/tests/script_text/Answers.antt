@@ -1,5 +1,5 @@
-use Rattle.journal.specs.LifeLaws.{IsRun-reportable}
+use Rattle.world_rules.specs.laws.LifeLaws.{run_reportable}
 use Rattle.lunatic_cli.proofs.tests.script_text.Goals as goal
 
 pub text_of-requires : goal.text_of-requires
-text_of-requires c = IsRun-reportable _ c.run_alone-journal.result c.run_alone-journal.ensures.run
+text_of-requires c = run_reportable _ c.run_alone-journal.result c.run_alone-journal.ensures.run
