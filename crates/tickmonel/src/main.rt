@@ -1,26 +1,28 @@
 //! The program `tickmonel`: makes the real store of files and standard output, calls `lunatic`, and ends with the
 //! status that it answers.
 //!
-//! Each of the sixteen workers that a run may have gets an outside of its own, in memory: no module reaches one yet.
-//! What the program does is `lunatic`'s contract, in the crate `lunatic_cli`. What real files and standard output hold
-//! is told by no clause.
+//! Each of the sixteen workers that a run may have gets an outside of its own, with the machine's clock; no module reaches
+//! a socket yet. What the program does is `lunatic`'s contract, in the crate `lunatic_cli`. What real files, standard
+//! output and the clock hold is told by no clause.
 #![tactic(auto)]
 
 ghost use Rattle.std.specs.Prelude.{◌≡◌, IfOk, vec_len};
 
 mod real_files;
 mod real_out;
+mod real_time;
 
 use lunatic_cli::lunatic;
 use memory_refusal::NoMemory;
-use outside::MemOutside;
 use real_files::RealFiles;
 use real_out::RealOut;
+use real_time::RealTime;
 use std::alloc::Global;
 use std::env;
 use std::io::{self, ErrorKind};
 use std::process::ExitCode;
 use std::rt::Env;
+use std::time::{Clock, Instant};
 
 /// The status for want of memory.
 const MEMORY: u8 = 8;
@@ -32,7 +34,7 @@ fn main(rt: HostRuntime) -> ExitCode {
     let Ok(words) = given_words(&rt) else {
         return ExitCode::from(MEMORY);
     };
-    let Ok(mut outsides) = all_outsides(rt.alloc()) else {
+    let Ok(mut outsides) = all_outsides(&rt) else {
         return ExitCode::from(MEMORY);
     };
     let mut files = RealFiles::new(&rt);
@@ -47,13 +49,14 @@ fn main(rt: HostRuntime) -> ExitCode {
     ExitCode::from(finish.status)
 }
 
-/// An outside for each worker.
-fn all_outsides(alloc: Global) -> Result<Vec<MemOutside>, NoMemory>
+/// An outside for each worker. Their clocks begin together.
+fn all_outsides<R: Clock + AllocGlobal>(rt: &R) -> Result<Vec<RealTime<'_, R>>, NoMemory>
     ensures { IfOk result (λ outsides. vec_len outsides ≡ 16) }
 {
-    let mut outsides = Vec::new(alloc);
+    let began = Instant::now(rt).ok();
+    let mut outsides = Vec::new(rt.alloc());
     for _worker in 0..WORKERS {
-        outsides.push(MemOutside::with_nothing(alloc))?;
+        outsides.push(RealTime::new(rt, began))?;
     }
     Ok(outsides)
 }
