@@ -23,7 +23,7 @@ all_rows = message_rows ++ process_rows ++ config_rows ++ registry_rows ++ netwo
 
 -- the numbers of the calls that the host serves
 abbrev pub served : List ℕ
-served = 0 ∷ 1 ∷ 2 ∷ 3 ∷ 4 ∷ 5 ∷ 8 ∷ 9 ∷ 10 ∷ 17 ∷ 35 ∷ []
+served = 0 ∷ 1 ∷ 2 ∷ 3 ∷ 4 ∷ 5 ∷ 6 ∷ 7 ∷ 8 ∷ 9 ∷ 10 ∷ 17 ∷ 27 ∷ 28 ∷ 29 ∷ 30 ∷ 31 ∷ 32 ∷ 33 ∷ 34 ∷ 35 ∷ []
 
 -- the host serves the call of this number
 unfoldable pub is_served : ℕ → Bool

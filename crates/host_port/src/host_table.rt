@@ -112,7 +112,7 @@ pub fn rows_are_sound()
 pub fn is_served(call: u8) -> bool
     ensures { result ≡ is_served call }
 {
-    matches!(call, 0..=5 | 8..=10 | 17 | 35)
+    matches!(call, 0..=10 | 17 | 27..=35)
 }
 
 /// The row of this call, also of one that is not served; None exactly where there is no such call.
