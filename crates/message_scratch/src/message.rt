@@ -51,6 +51,14 @@ impl<S: Stream> Message<S> {
         self.tag
     }
 
+    /// How many slots it has, at most 64: one for each stream that was pushed, also where it was taken out again.
+    pub fn pushes(&self) -> u32
+        ensures pushes { result ≡ length self.now.slots }
+        ensures bounded { length self.now.slots ≤ 64 }
+    {
+        self.slots.len() as u32
+    }
+
     /// Its bytes, at most 1,048,576. Its slots are at most 64.
     pub(crate) fn bytes(&self) -> &[u8]
         ensures bytes { result.now ≡ self.now.bytes }

@@ -129,6 +129,14 @@ impl<S: Stream> Scratch<S> {
         Some(self.message.as_ref()?.bytes().len() as u64)
     }
 
+    /// How many streams were pushed into the message, those among them that were taken out again; None exactly without
+    /// a message.
+    pub fn pushes(&self) -> Option<u32>
+        ensures { result ≡ option_map (λ s. length s.message.slots) self.now }
+    {
+        Some(self.message.as_ref()?.slots().len() as u32)
+    }
+
     /// Gives the message up; None exactly without one.
     pub fn let_go(&mut self) -> Option<Message<S>>
         ensures given { result ≡ option_map (λ s. s.message) self.old }
@@ -194,23 +202,6 @@ impl<S: Stream> Scratch<S> {
             None => {}
             Some(_) => unreachable!(),
         }
-    }
-}
-
-impl<S: Stream + Drop> Scratch<S> {
-    /// Makes a blank message of this tag. The old message is dropped, with its streams.
-    pub fn renew(&mut self, tag: u64)
-        ensures { self.new ≡ Some (unread (blank_message tag)) }
-    {
-        self.put(Message::new(self.alloc, tag));
-    }
-
-    /// Takes a message, to be read from its first byte on. The old message is dropped, with its streams.
-    pub fn put(&mut self, message: Message<S>)
-        ensures { self.new ≡ Some (unread message) }
-    {
-        self.read_place = 0;
-        self.message = Some(message);
     }
 }
 
