@@ -10,8 +10,8 @@ use Rattle.node_state.specs.Slots.{Slot, SlotFits}
 -- What a node holds, and when that stands for a journal.
 
 -- what a node holds: the slot, the mailbox and the deadline of each process number; the ready list; how many sends were
--- answered 0; the time; how many early Ticks the last entries are, in a row; whether the run is over; and how many
--- processes workers have
+-- answered 0; the time; how many Pending gives and early Ticks the last entries are, in a row; whether the run is over;
+-- how many processes workers have; how many stream numbers were drawn; and the closed streams, in order
 pub record Held (E : Type 0) : Type 0 where
   pub slots : ℕ → Slot E
   pub mail : ℕ → List MailItem
@@ -22,6 +22,8 @@ pub record Held (E : Type 0) : Type 0 where
   pub row : ℕ
   pub over : Bool
   pub out : ℕ
+  pub streams : ℕ
+  pub closed : List ℕ
 
 -- the number is in the list
 abbrev pub is_in : ℕ → List ℕ → Bool
@@ -55,6 +57,8 @@ pub record Mirrors {E P : Type 0} (engines : Meaning E P) (programs : List P) (w
   pub row : w.row ≡ held.row
   pub over : w.over ≡ held.over
   pub out : away_count w.process w.numbers_drawn ≡ held.out
+  pub streams : w.streams ≡ held.streams
+  pub closed : w.closed ≡ held.closed
   pub unlinked : (a b : ℕ) → w.links a b ≡ None
 
 -- the places that stay reserved: one for each Give that is to come, and Starve's while the run goes on

@@ -1,18 +1,22 @@
-use Rattle.std.specs.Prelude.{◌≡◌, ◌≢◌, ℕ, ◌+◌, ◌-◌, ◌<◌, ◌≤◌, ◌^◌, List, [], ◌∷◌, ◌++◌, Option, Some, None, max, min, false, true, if◌then◌else◌}
+use Rattle.std.specs.Prelude.{◌≡◌, ◌≢◌, ℕ, ◌+◌, ◌-◌, ◌<◌, ◌≤◌, ◌^◌, List, [], ◌∷◌, ◌++◌, Option, Some, None, max, min, slice_index, false, true, if◌then◌else◌}
 use Rattle.std.specs.Option.{option_map_or}
+use Rattle.host_port.specs.declared.ask.Ask.{Ask}
 use Rattle.world_rules.specs.declared.entry.Side.{Side}
 use Rattle.world_rules.specs.declared.entry.Side.TheVariants as SideIs
 use Rattle.world_rules.specs.Mail.{MailItem, Letter, message_count, most_messages, pick, unpicked}
-use Rattle.world_rules.specs.Part.{Part, Scratch, Message}
+use Rattle.world_rules.specs.Part.{Part, Scratch, Message, scratch_handles}
 use Rattle.world_rules.specs.Settled.{settled, SentOff, Delivered}
-use Rattle.world_rules.specs.Views.{clock_in}
+use Rattle.world_rules.specs.Calls.{HostCall, call_numbered}
+use Rattle.world_rules.specs.Calls as CallIs
+use Rattle.world_rules.specs.Views.{clock_in, is_opened}
 use Rattle.world_rules.specs.Time.{is_positive}
 use Rattle.node_state.specs.declared.outcome.Post.{Post}
 use Rattle.node_state.specs.declared.outcome.Post.TheVariants.{Put, Nobody, Full, Refused}
 use Rattle.node_state.specs.declared.outcome.Receipt.{Receipt}
 use Rattle.node_state.specs.declared.outcome.Receipt.TheVariants as Receive
 
--- What a send, a receive and a sleep do to a mailbox, to the part of the process and to its deadline.
+-- What a send, a receive and a sleep do to a mailbox, to the part of the process and to its deadline, and an opened
+-- stream to the numbers that are drawn.
 
 -- SEND
 
@@ -87,6 +91,29 @@ abbrev pub receipt_code : Receipt → ℕ
 receipt_code Receive.Delivered = 0
 receipt_code Receive.TimedOut = 9027
 receipt_code Receive.Waits = 9027
+
+-- the streams that it closes: those of the old scratch message, where another message is delivered
+abbrev pub receipt_closings : Receipt → Part → List ℕ
+receipt_closings Receive.Delivered part = scratch_handles part
+receipt_closings Receive.TimedOut part = []
+receipt_closings Receive.Waits part = []
+
+-- OPENED
+
+-- where the number of an opened stream is written, by the ask of an accept or of a connect
+abbrev pub id_in : Option HostCall → List ℕ → ℕ
+id_in (Some CallIs.Accept) args = slice_index args 1
+id_in _ args = slice_index args 2
+
+abbrev pub id_of : Ask → ℕ
+id_of ask = id_in (call_numbered ask.call) ask.args
+
+-- how many stream numbers were drawn, after a give with this side; and the number that it draws
+abbrev pub drawn_beside : Side → ℕ → ℕ
+drawn_beside side drawn = if is_opened side then drawn + 1 else drawn
+
+abbrev pub opened_number : Side → ℕ → List ℕ
+opened_number side drawn = if is_opened side then drawn ∷ [] else []
 
 -- TIME
 
