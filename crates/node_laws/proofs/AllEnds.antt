@@ -8,6 +8,8 @@ use Rattle.world_rules.specs.declared.halt.End.TheVariants as EndIs
 use Rattle.world_rules.specs.declared.life.Ended.{Ended as EndMemory}
 use Rattle.world_rules.specs.Arrivals as Came
 use Rattle.world_rules.specs.Book.{Book}
+use Rattle.world_rules.specs.Mail.{mail_handles}
+use Rattle.world_rules.specs.Part.{Part}
 use Rattle.world_rules.specs.Views.{deed_of}
 use Rattle.world_rules.specs.World.{World, Process, Stage, Unborn, Ready, Out, Waiting, Doomed, Ended, is_live, is_ready, is_ended, is_away, is_waiting, live_processes}
 use Rattle.world_rules.specs.Changes.{reached}
@@ -17,8 +19,8 @@ use Rattle.world_rules.specs.Allowed.{Allowed, IsStuck}
 use Rattle.world_rules.specs.Told.{told}
 use Rattle.world_rules.specs.Sound.{IsSound}
 use Rattle.world_rules.specs.Lives.{Setting, TurnIsRun, EndsAreMemories, terms_of}
-use Rattle.node_state.specs.Seats.{Meaning, Seat, StandsAt}
-use Rattle.node_state.specs.Slots.{Slot, Nobody, Home, Asleep, Away, Fated, Gone, SlotFits}
+use Rattle.node_state.specs.Seats.{Meaning, Seat, StandsAt, part_handles}
+use Rattle.node_state.specs.Slots.{Slot, Nobody, Home, Asleep, Away, Fated, Gone, SlotFits, closings_at}
 use Rattle.node_state.specs.Slots.{struck as struck_slot}
 use Rattle.node_state.specs.Held.{Held, StandsFor, ListsReady, IsFirstAlone, HaveEnded, away_count, kept_places}
 use Rattle.node_state.specs.Fits.{ShowMemory, IsLastOf, IsLastAt}
@@ -78,7 +80,7 @@ record Before {E P : Type 0} (engines : Meaning E P) (setting : Setting P) (w : 
   pub show : ShowMemory engines setting
 
 -- the world in which the end has come to process 1
-record Falls {E P : Type 0} (engines : Meaning E P) (setting : Setting P) (w v : World) (slot : Slot E) (ends more : List EndMemory) (p : Process) : Type 0 where
+record Falls {E P : Type 0} (engines : Meaning E P) (setting : Setting P) (w v : World) (slot : Slot E) (ends more : List EndMemory) (p : Process) (more_closed : List ℕ) : Type 0 where
   pub alters : Alters w v 1 p
   pub started : p.start ≡ (w.process 1).start
   pub dead : is_live p.stage ≡ false
@@ -91,6 +93,8 @@ record Falls {E P : Type 0} (engines : Meaning E P) (setting : Setting P) (w v :
   pub first_ends : is_ended p.stage ≡ false → v.exits ≡ []
   pub sends : v.sends ≡ w.sends
   pub time : v.time ≡ w.time
+  pub streams : v.streams ≡ w.streams
+  pub closed : v.closed ≡ w.closed ++ more_closed
 
 none_either : (b : Bool) (x : Option ℕ) → x ≡ None → cond b None x ≡ None
 none_either true x h = refl
@@ -107,9 +111,9 @@ gone p end = stripped (reached p (Came.Doomed end)) end
 -- the end has come to a process at home
 falls_home : {E P : Type 0} (engines : Meaning E P) (setting : Setting P) (w : World) (end : End) (ends : List EndMemory) (seat : Seat E) (memory : EndMemory)
     → Before engines setting w ends → is_away (w.process 1).stage ≡ false
-    → StandsAt engines setting.programs (w.process 1) seat.engine (w.process 1).calls (w.process 1).fuel → IsLastOf engines 1 seat.engine memory
-    → Falls engines setting w (ended_from_outside w 1 end) Gone ends (memory ∷ []) (gone (w.process 1) end)
-falls_home engines setting w end ends seat memory b home stands last =
+    → StandsAt engines setting.programs (w.process 1) seat.engine (w.process 1).calls (w.process 1).fuel → seat.part ≡ (w.process 1).part → IsLastOf engines 1 seat.engine memory
+    → Falls engines setting w (ended_from_outside w 1 end) Gone ends (memory ∷ []) (gone (w.process 1) end) (part_handles seat.part ++ mail_handles (w.process 1).mail)
+falls_home engines setting w end ends seat memory b home stands part last =
     let v : World = ended_from_outside w 1 end in
     let p : Process = gone (w.process 1) end in
     let alters : Alters w v 1 p = record {
@@ -127,7 +131,7 @@ falls_home engines setting w end ends seat memory b home stands last =
       dead = refl;
       empty = refl;
       untimed = refl;
-      fits = refl;
+      fits = record { ended = refl; left = refl };
       away = sym home;
       ended = ended-last v.process w.exits (record { pid = 1; end = end }) (ended-stay w.process v.process w.exits b.have stay) refl;
       memories = ends-last setting v.process w.exits (record { pid = 1; end = end }) ends memory (ends-stay setting w.process v.process w.exits ends b.have stay b.are) last.numbered
@@ -135,13 +139,15 @@ falls_home engines setting w end ends seat memory b home stands last =
       first_ends = λ e. true_is_not_false e;
       sends = refl;
       time = refl;
+      streams = refl;
+      closed = ap (λ (x : Part). w.closed ++ (part_handles x ++ mail_handles (w.process 1).mail)) (sym part);
     }
 
 -- the end has come to a process that is out
 falls_out : {E P : Type 0} (engines : Meaning E P) (setting : Setting P) (w : World) (worker : ℕ) (end : End) (ends more : List EndMemory)
-    → Before engines setting w ends → (w.process 1).stage ≡ Out worker → (w.process 1).owed ≡ None → more ≡ []
-    → Falls engines setting w (doomed w 1 worker end) (Fated worker end) ends more (fated (w.process 1) worker end)
-falls_out engines setting w worker end ends more b out own none =
+    → Before engines setting w ends → (w.process 1).stage ≡ Out worker → more ≡ []
+    → Falls engines setting w (doomed w 1 worker end) (Fated worker end) ends more (fated (w.process 1) worker end) (mail_handles (w.process 1).mail)
+falls_out engines setting w worker end ends more b out none =
     let v : World = doomed w 1 worker end in
     let p : Process = fated (w.process 1) worker end in
     let alters : Alters w v 1 p = record {
@@ -159,13 +165,15 @@ falls_out engines setting w worker end ends more b out own none =
       dead = refl;
       empty = refl;
       untimed = b.untimed (ap is_waiting out);
-      fits = record { stage = refl; owed = own };
+      fits = refl;
       away = sym (ap is_away out);
       ended = ended-stay w.process v.process w.exits b.have stay;
       memories = rw (none, append-nil ends) (ends-stay setting w.process v.process w.exits ends b.have stay b.are);
       first_ends = λ _. b.none;
       sends = refl;
       time = refl;
+      streams = refl;
+      closed = refl;
     }
 
 struck_is : (stage to : Stage) (w : World) (end : End) → stage ≡ to → struck stage w 1 end ≡ struck to w 1 end
@@ -177,7 +185,7 @@ dead_slot stage to live is dead = true_is_not_false (sym live ∙ ap is_live is 
 -- the world after the end has come to process 1, whatever it was doing
 falls : {E P : Type 0} (engines : Meaning E P) (setting : Setting P) (w : World) (slot : Slot E) (end : End) (ends more : List EndMemory)
     → Before engines setting w ends → is_live (w.process 1).stage ≡ true → SlotFits engines setting.programs (w.process 1) slot → IsLastAt engines 1 slot more
-    → (v : World) × (p : Process) × (struck (w.process 1).stage w 1 end ≡ v) × Falls engines setting w v (struck_slot end slot) ends more p
+    → (v : World) × (p : Process) × (struck (w.process 1).stage w 1 end ≡ v) × Falls engines setting w v (struck_slot end slot) ends more p (closings_at slot (w.process 1).mail)
 falls engines setting w Nobody end ends more b live fits last = dead_slot (w.process 1).stage Unborn live (ap (λ (x : Process). x.stage) fits) refl
 falls engines setting w (Home seat) end ends [] b live fits last = absurd last
 falls engines setting w (Home seat) end ends (memory ∷ []) b live fits last = (
@@ -185,7 +193,7 @@ falls engines setting w (Home seat) end ends (memory ∷ []) b live fits last = 
   gone (w.process 1) end,
   struck_is (w.process 1).stage Ready w end fits.stage,
   falls_home engines setting w end ends seat memory b
-      (ap is_away fits.stage) fits.seated.stands last,
+      (ap is_away fits.stage) fits.seated.stands fits.seated.part last,
 )
 falls engines setting w (Home seat) end ends (memory ∷ other ∷ more) b live fits last = absurd last
 falls engines setting w (Asleep seat ask) end ends [] b live fits last = absurd last
@@ -194,13 +202,13 @@ falls engines setting w (Asleep seat ask) end ends (memory ∷ []) b live fits l
   gone (w.process 1) end,
   struck_is (w.process 1).stage _ w end fits.stage,
   falls_home engines setting w end ends seat memory b
-      (ap is_away fits.stage) fits.seated.stands last,
+      (ap is_away fits.stage) fits.seated.stands fits.seated.part last,
 )
 falls engines setting w (Asleep seat ask) end ends (memory ∷ other ∷ more) b live fits last = absurd last
 falls engines setting w (Away worker) end ends more b live fits last =
-    (doomed w 1 worker end, fated (w.process 1) worker end, struck_is (w.process 1).stage (Out worker) w end fits.stage, falls_out engines setting w worker end ends more b fits.stage fits.owed last)
-falls engines setting w (Fated worker earlier) end ends more b live fits last = dead_slot (w.process 1).stage _ live fits.stage refl
-falls engines setting w Gone end ends more b live fits last = true_is_not_false (sym live ∙ ended_unlive (w.process 1).stage fits)
+    (doomed w 1 worker end, fated (w.process 1) worker end, struck_is (w.process 1).stage (Out worker) w end fits, falls_out engines setting w worker end ends more b fits last)
+falls engines setting w (Fated worker earlier) end ends more b live fits last = dead_slot (w.process 1).stage _ live fits refl
+falls engines setting w Gone end ends more b live fits last = true_is_not_false (sym live ∙ ended_unlive (w.process 1).stage fits.ended)
 
 -- the one live process is struck
 live_is : (w : World) → w.numbers_drawn ≡ 1 → is_live (w.process 1).stage ≡ true → live_processes w ≡ 1 ∷ []
@@ -266,6 +274,8 @@ keeps_all_end {engines = engines} {setting = setting} old new was is entry end m
         row = sym all.row;
         over = sym all.over;
         out = same_out ∙ m.out ∙ sym all.out;
+        streams = b.streams ∙ m.streams ∙ sym all.closes.streams_are;
+        closed = b.closed ∙ (λ i. m.closed i ++ closings_at (was.slots 1) (m.mail 1 i)) ∙ sym all.closes.closed_are;
         unlinked = λ x y. b.alters.unlinked x y (m.unlinked x y);
       };
       quiet = λ _. nobody;

@@ -1,6 +1,5 @@
 use Rattle.std.proofs.Common.{◌≡◌, ℕ, List, [], ◌∷◌, Some, None, Contains, lit<, refl, sym, ◌∙◌, ap}
 use Rattle.host_port.specs.declared.ask.Ask.{Ask}
-use Rattle.host_port.specs.declared.call.Call.{Call}
 use Rattle.host_port.specs.declared.request.Request.{Request}
 use Rattle.host_port.specs.declared.reply.Reply.{Reply}
 use Rattle.host_port.specs.Forms.{HasForm, text_of, word_of}
@@ -8,7 +7,6 @@ use Rattle.host_port.specs.HostTable.{OneOf, send, receive, results_of}
 use Rattle.host_port.specs.ProcessRows.{sleep_ms}
 use Rattle.host_port.specs.Steps.{IsAnswerable}
 use Rattle.host_port.proofs.HostLaws.{send-row, receive-row, send-results, receive-results, text_by, word_by}
-use Rattle.world_rules.specs.declared.entry.Side.{Side}
 use Rattle.world_rules.specs.declared.halt.Halt.TheVariants.{Asks}
 use Rattle.world_rules.specs.declared.life.Birth.{Birth}
 use Rattle.world_rules.specs.Answers.{empty_reply, number_reply}
@@ -18,10 +16,11 @@ use Rattle.node_state.specs.declared.outcome.Post.{Post}
 use Rattle.node_state.specs.declared.outcome.Post.TheVariants.{Put, Nobody, Full, Refused}
 use Rattle.node_state.specs.declared.outcome.Receipt.{Receipt}
 use Rattle.node_state.specs.declared.outcome.Receipt.TheVariants as ReceiptIs
-use Rattle.node_state.specs.Seats.{Meaning, Seat}
-use Rattle.node_state.specs.Fits.{TurnFits}
+use Rattle.node_state.specs.Seats.{Meaning}
+use Rattle.node_state.specs.Fits.{Brought, TurnFits}
 use Rattle.node_state.specs.Posts.{code_of, receipt_code}
 use Rattle.node_laws.proofs.HostRows.{sleep-row, sleep-results}
+use Rattle.node_laws.proofs.Gives.{brings}
 use Rattle.node_laws.proofs.Requests.{asked-fits}
 
 -- What a node may tell its engines.
@@ -63,30 +62,33 @@ sleep-form ask call = record {
 }
 
 -- an engine that owes a reply may be given one that has the form of its call
-pub answerable : {E P : Type 0} {engines : Meaning E P} {setting : Setting P} (births : List Birth) (w : World) (worker pid : ℕ) (seat : Seat E) (calls : List Call) (request : Request) (side : Side)
-    (reply : Reply) → TurnFits engines setting births w worker pid seat calls (Asks request) side → HasForm request.ask reply
-    → IsAnswerable (engines.phase seat.engine) (engines.memory seat.engine) reply
-answerable births w worker pid seat calls request side reply fits form = record {
-  ask = request.ask;
-  owed = fits.phase.0;
-  fits = ap (λ (r : Request). r.fits) (sym fits.phase.1) ∙ asked-fits births w worker pid seat calls request side fits;
-  form = form;
-}
+pub answerable : {E P : Type 0} {engines : Meaning E P} {setting : Setting P} (births : List Birth) (w : World) (worker pid : ℕ) (brought : Brought E) (request : Request) (reply : Reply)
+    → TurnFits engines setting births w worker pid brought → brought.halt ≡ Asks request → HasForm request.ask reply
+    → IsAnswerable (engines.phase brought.seat.engine) (engines.memory brought.seat.engine) reply
+answerable births w worker pid brought request reply fits halt form =
+    let f = brings births w worker pid brought (Asks request) brought.side halt refl fits in
+    let owes = f.phase.0 in
+    record {
+      ask = request.ask;
+      owed = owes.phase;
+      fits = ap (λ (r : Request). r.fits) (sym owes.bytes) ∙ asked-fits births w worker pid brought.seat brought.calls request brought.side brought.shed f;
+      form = form;
+    }
 
-pub answerable-send : {E P : Type 0} {engines : Meaning E P} {setting : Setting P} (births : List Birth) (w : World) (worker pid : ℕ) (seat : Seat E) (calls : List Call) (request : Request)
-    (side : Side) (outcome : Post) → request.ask.call ≡ 8 → TurnFits engines setting births w worker pid seat calls (Asks request) side
-    → IsAnswerable (engines.phase seat.engine) (engines.memory seat.engine) (number_reply (code_of outcome))
-answerable-send births w worker pid seat calls request side outcome call fits =
-    answerable births w worker pid seat calls request side (number_reply (code_of outcome)) fits (send-form request.ask outcome call)
+pub answerable-send : {E P : Type 0} {engines : Meaning E P} {setting : Setting P} (births : List Birth) (w : World) (worker pid : ℕ) (brought : Brought E) (request : Request) (outcome : Post)
+    → request.ask.call ≡ 8 → TurnFits engines setting births w worker pid brought → brought.halt ≡ Asks request
+    → IsAnswerable (engines.phase brought.seat.engine) (engines.memory brought.seat.engine) (number_reply (code_of outcome))
+answerable-send births w worker pid brought request outcome call fits halt =
+    answerable births w worker pid brought request (number_reply (code_of outcome)) fits halt (send-form request.ask outcome call)
 
-pub answerable-receive : {E P : Type 0} {engines : Meaning E P} {setting : Setting P} (births : List Birth) (w : World) (worker pid : ℕ) (seat : Seat E) (calls : List Call) (request : Request)
-    (side : Side) (receipt : Receipt) → request.ask.call ≡ 9 → TurnFits engines setting births w worker pid seat calls (Asks request) side
-    → IsAnswerable (engines.phase seat.engine) (engines.memory seat.engine) (number_reply (receipt_code receipt))
-answerable-receive births w worker pid seat calls request side receipt call fits =
-    answerable births w worker pid seat calls request side (number_reply (receipt_code receipt)) fits (receive-form request.ask receipt call)
+pub answerable-receive : {E P : Type 0} {engines : Meaning E P} {setting : Setting P} (births : List Birth) (w : World) (worker pid : ℕ) (brought : Brought E) (request : Request) (receipt : Receipt)
+    → request.ask.call ≡ 9 → TurnFits engines setting births w worker pid brought → brought.halt ≡ Asks request
+    → IsAnswerable (engines.phase brought.seat.engine) (engines.memory brought.seat.engine) (number_reply (receipt_code receipt))
+answerable-receive births w worker pid brought request receipt call fits halt =
+    answerable births w worker pid brought request (number_reply (receipt_code receipt)) fits halt (receive-form request.ask receipt call)
 
-pub answerable-sleep : {E P : Type 0} {engines : Meaning E P} {setting : Setting P} (births : List Birth) (w : World) (worker pid : ℕ) (seat : Seat E) (calls : List Call) (request : Request)
-    (side : Side) → request.ask.call ≡ 17 → TurnFits engines setting births w worker pid seat calls (Asks request) side
-    → IsAnswerable (engines.phase seat.engine) (engines.memory seat.engine) empty_reply
-answerable-sleep births w worker pid seat calls request side call fits =
-    answerable births w worker pid seat calls request side empty_reply fits (sleep-form request.ask call)
+pub answerable-sleep : {E P : Type 0} {engines : Meaning E P} {setting : Setting P} (births : List Birth) (w : World) (worker pid : ℕ) (brought : Brought E) (request : Request)
+    → request.ask.call ≡ 17 → TurnFits engines setting births w worker pid brought → brought.halt ≡ Asks request
+    → IsAnswerable (engines.phase brought.seat.engine) (engines.memory brought.seat.engine) empty_reply
+answerable-sleep births w worker pid brought request call fits halt =
+    answerable births w worker pid brought request empty_reply fits halt (sleep-form request.ask call)

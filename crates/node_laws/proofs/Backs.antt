@@ -48,12 +48,12 @@ slot-with engines programs p Nobody worker fits is_with = not_with p.stage worke
 slot-with engines programs p (Home seat) worker fits is_with = not_with p.stage worker is_with (ap is_away fits.stage)
 slot-with engines programs p (Asleep seat ask) worker fits is_with = not_with p.stage worker is_with (ap is_away fits.stage)
 slot-with engines programs p (Away other) worker fits is_with =
-    let same : other ≡ worker = out_with p.stage other worker fits.stage is_with in
-    inl (ap Away same, fits.stage ∙ ap Out same)
+    let same : other ≡ worker = out_with p.stage other worker fits is_with in
+    inl (ap Away same, fits ∙ ap Out same)
 slot-with engines programs p (Fated other end) worker fits is_with =
-    let same : other ≡ worker = doomed_with p.stage other worker end fits.stage is_with in
-    inr (end, ap (λ (n : ℕ). Fated n end) same, fits.stage ∙ ap (λ (n : ℕ). Doomed n end) same)
-slot-with engines programs p Gone worker fits is_with = not_with p.stage worker is_with (ended_home p.stage fits)
+    let same : other ≡ worker = doomed_with p.stage other worker end fits is_with in
+    inr (end, ap (λ (n : ℕ). Fated n end) same, fits ∙ ap (λ (n : ℕ). Doomed n end) same)
+slot-with engines programs p Gone worker fits is_with = not_with p.stage worker is_with (ended_home p.stage fits.ended)
 
 -- while a process is out the run goes on
 pub going-out : {E P : Type 0} {engines : Meaning E P} {setting : Setting P} (book : Book) (held : Held E) (pid worker : ℕ) → StandsFor engines setting book (told book) held

@@ -1,4 +1,4 @@
-use Rattle.std.proofs.Common.{◌≡◌, ◌≢◌, ℕ, ◌+◌, ◌<◌, ◌≤◌, [], ◌∷◌, length, List, Some, true, false, nat_eq, slice_get, refl, sym, ◌∙◌, ap, subst, arith, ◌⊎◌, inl, inr}
+use Rattle.std.proofs.Common.{◌≡◌, ◌≢◌, ℕ, ◌+◌, ◌<◌, ◌≤◌, [], ◌∷◌, length, List, Some, None, true, false, nat_eq, slice_get, refl, sym, ◌∙◌, ap, subst, arith, ◌⊎◌, inl, inr}
 use Rattle.std.proofs.lemmas.Bool.Decides.{eqb_tells}
 use Rattle.host_port.specs.declared.start.Start.{Start}
 use Rattle.host_port.specs.Standing.{Running}
@@ -54,8 +54,8 @@ pub keeps-first : {E P : Type 0} {engines : Meaning E P} {setting : Setting P} (
 keeps-first {E = E} {engines = engines} {setting = setting} book held start engine begins first births none ends room stands running holds =
     let w : World = first_world (Born start ∷ []) in
     let is : told book ≡ w = told_first book start births none in
-    let home : IsHome engines setting.programs (fresh_process start Ready) (record { engine = engine; start = start; part = no_part; fuel = 0 }) =
-    record { stage = refl; owed = refl; seated = record { stands = stands; start = refl; part = refl; fuel = refl; phase = running } } in
+    let home : IsHome engines setting.programs (fresh_process start Ready) (record { engine = engine; start = start; part = no_part; fuel = 0; owed = None }) =
+    record { stage = refl; seated = record { stands = stands; start = refl; part = refl; fuel = refl; owed = refl; phase = running }; tries = tt } in
     let ends_are : EndsAreMemories setting (told book).process (told book).exits book.ends = rw (is, ends) tt in
     let one : length book.births ≡ (told book).spawns + 1 = ap (λ (bs : List Birth). length bs) births ∙ ap (λ (x : World). x.spawns + 1) (sym is) in
     rw is (record {
@@ -81,6 +81,8 @@ keeps-first {E = E} {engines = engines} {setting = setting} book held start engi
         row = sym holds.row;
         over = sym holds.over;
         out = sym holds.out;
+        streams = sym holds.streams;
+        closed = sym holds.closed;
         unlinked = λ a b. refl;
       };
       quiet = λ o. true_is_not_false (sym o ∙ holds.over);

@@ -1,11 +1,10 @@
-use Rattle.std.proofs.Common.{◌≡◌, ℕ, List, [], ◌∷◌, None, Bool, true, false, cond, nat_eq, ◌≢◌, refl, sym, ◌∙◌, ap, subst, ◌⊎◌, inl, inr}
+use Rattle.std.proofs.Common.{◌≡◌, ℕ, List, [], ◌∷◌, Bool, true, false, cond, nat_eq, ◌≢◌, refl, sym, ◌∙◌, ap, subst, ◌⊎◌, inl, inr}
 use Rattle.std.proofs.lemmas.Bool.Decides.{eqb_tells}
 use Rattle.std.proofs.Math.Logic.{∥∥₁_elim}
 use Rattle.std.proofs.Math.Nat.{ℕ_set}
 use Rattle.host_port.specs.declared.ask.Ask.{Ask}
 use Rattle.host_port.specs.Areas.{request_of}
 use Rattle.host_port.specs.Forms.{HasForm}
-use Rattle.host_port.specs.Standing.{Running}
 use Rattle.host_port.specs.Steps.{IsAnswerable}
 use Rattle.world_rules.specs.declared.entry.Entry.TheVariants.{Take}
 use Rattle.world_rules.specs.Book.{Book}
@@ -15,7 +14,7 @@ use Rattle.world_rules.specs.Time.{late_reply}
 use Rattle.world_rules.specs.Told.{told}
 use Rattle.world_rules.specs.Lives.{Setting}
 use Rattle.node_state.specs.declared.outcome.Receipt.TheVariants as ReceiptIs
-use Rattle.node_state.specs.Seats.{Meaning, Seat, IsSeatOf}
+use Rattle.node_state.specs.Seats.{Meaning, Seat, IsSeatOf, phase_by}
 use Rattle.node_state.specs.Slots.{IsHome, IsAsleep, Slot, Asleep, SlotFits}
 use Rattle.node_state.specs.Held.{Held, StandsFor, IsFirstAlone, AreReady, is_in}
 use Rattle.node_state.specs.Changes.{Records}
@@ -28,13 +27,13 @@ use Rattle.node_laws.proofs.Answerable.{receive-form, sleep-form}
 
 -- What a node shows of a process that is taken, and what it tells an engine whose wait has ended.
 
--- after its Take the process is out to the worker, owes nothing, and all else of it is as it was at home
+-- after its Take the process is out to the worker, and all else of it is as it was at home
 pub shown-taken : {E P : Type 0} (engines : Meaning E P) (programs : List P) (old new : Book) (pid worker : ℕ) (seat : Seat E) → IsHome engines programs ((told old).process pid) seat
-    → Records old new (Take worker pid) [] → IsSeatOf engines programs ((told new).process pid) Running seat × (((told new).process pid).stage ≡ Out worker) × (((told new).process pid).owed ≡ None)
+    → Records old new (Take worker pid) [] → IsSeatOf engines programs ((told new).process pid) (phase_by seat.owed) seat × (((told new).process pid).stage ≡ Out worker)
 shown-taken engines programs old new pid worker seat home records =
     let s = home.seated in
     rw (told-last old new (Take worker pid) records.births records.entries, nat_eq_same pid)
-    (record { stands = s.stands; start = s.start; part = s.part; fuel = s.fuel; phase = s.phase }, refl, home.owed)
+    (record { stands = s.stands; start = s.start; part = s.part; fuel = s.fuel; owed = s.owed; phase = s.phase }, refl)
 
 ready_home : (stage : Stage) → is_ready stage ≡ true → is_away stage ≡ false
 ready_home stage h = ap is_away (ready_is stage h)

@@ -38,9 +38,9 @@ pub seat-there : {E P : Type 0} (engines : Meaning E P) (programs : List P) (p :
 seat-there engines programs p Nobody fits ready = not_ready p.stage Unborn ready (ap (λ (x : Process). x.stage) fits) refl
 seat-there engines programs p (Home seat) fits ready = (seat, refl, fits)
 seat-there engines programs p (Asleep seat ask) fits ready = not_ready p.stage _ ready fits.stage refl
-seat-there engines programs p (Away worker) fits ready = not_ready p.stage _ ready fits.stage refl
-seat-there engines programs p (Fated worker end) fits ready = not_ready p.stage _ ready fits.stage refl
-seat-there engines programs p Gone fits ready = not_ended p.stage ready fits
+seat-there engines programs p (Away worker) fits ready = not_ready p.stage _ ready fits refl
+seat-there engines programs p (Fated worker end) fits ready = not_ready p.stage _ ready fits refl
+seat-there engines programs p Gone fits ready = not_ended p.stage ready fits.ended
 
 -- the front of the list is ready, and has a seat
 pub front-seat : {E P : Type 0} {engines : Meaning E P} {setting : Setting P} (book : Book) (held : Held E) (pid : ℕ) (rest : List ℕ) → StandsFor engines setting book (told book) held
@@ -94,7 +94,6 @@ keeps-take {engines = engines} {setting = setting} old new was is pid worker kee
     let alters : Alters w v pid p = alters-with w pid p in
     let after : Alters w u pid p = record { at = alters.at; others = alters.others; drawn = alters.drawn; spawns = refl; unlinked = λ a b h. h } in
     let each = rw takes.front at m.ready.each in
-    let home = front-seat old was pid is.ready keeps takes.front in
     let was_ready : (w.process pid).stage ≡ Ready = ready_is (w.process pid).stage each.0 in
     let one : pid ≡ 1 = first-is w pid is_ready keeps.first refl each.0 in
     let unended : is_ended (w.process pid).stage ≡ false = ap is_ended was_ready in
@@ -110,7 +109,7 @@ keeps-take {engines = engines} {setting = setting} old new was is pid worker kee
           (rw (append-nil old.ends) (ends-stay setting w.process u.process w.exits old.ends keeps.ended stay keeps.run.ends));
       mirrors = record {
         ready = lists_take w v u pid p was.ready is.ready alters refl takes.front refl refl m.ready;
-        slots = slots-one engines setting.programs w u pid p was is (Away worker) (was.mail pid) (was.deadlines pid) after takes.change (record { stage = refl; owed = home.2.owed }) m.slots;
+        slots = slots-one engines setting.programs w u pid p was is (Away worker) (was.mail pid) (was.deadlines pid) after takes.change refl m.slots;
         mail = mail-one w u pid p was is (Away worker) (was.deadlines pid) after (rw (← m.mail pid) at takes.change) m.mail;
         deadlines = deadlines-one w u pid p was is (Away worker) (was.mail pid) after (rw (← m.deadlines pid) at takes.change) m.deadlines;
         sends = m.sends ∙ sym takes.counts.sends_are;
@@ -118,6 +117,8 @@ keeps-take {engines = engines} {setting = setting} old new was is pid worker kee
         row = m.row ∙ sym takes.counts.row_is;
         over = m.over ∙ sym takes.counts.over;
         out = one_out ∙ (sym (takes.out ∙ ap (λ (n : ℕ). n + 1) zero_out));
+        streams = m.streams ∙ sym takes.closes.streams_are;
+        closed = m.closed ∙ sym (takes.closes.closed_are ∙ append-nil was.closed);
         unlinked = m.unlinked;
       };
       quiet = λ o. true_is_not_false (sym o ∙ takes.counts.over ∙ going);

@@ -1,4 +1,4 @@
-use Rattle.std.proofs.Common.{◌≡◌, ℕ, ◌+◌, ◌<◌, ◌≤◌, List, [], ◌∷◌, ◌++◌, length, Option, Some, None, Bool, true, false, cond, nat_le, ◌&&◌, max, append-nil, refl, sym, ◌∙◌, ap, subst, arith}
+use Rattle.std.proofs.Common.{◌≡◌, ℕ, ◌+◌, ◌<◌, ◌≤◌, List, [], ◌∷◌, ◌++◌, length, Option, Some, None, Bool, true, false, cond, option_map, nat_le, ◌&&◌, max, append-nil, refl, sym, ◌∙◌, ap, subst, arith}
 use Rattle.std.proofs.lemmas.Bool.Decides.{nat_tests}
 use Rattle.host_port.specs.declared.ask.Ask.{Ask}
 use Rattle.host_port.specs.declared.request.Request.{Request}
@@ -16,7 +16,7 @@ use Rattle.world_rules.specs.Allowed.{Allowed}
 use Rattle.world_rules.specs.Told.{told}
 use Rattle.world_rules.specs.Sound.{IsSound}
 use Rattle.world_rules.specs.Lives.{Setting, EndsAreMemories, terms_of}
-use Rattle.node_state.specs.Seats.{Meaning, Seat}
+use Rattle.node_state.specs.Seats.{Meaning, Seat, IsOwed, phase_by}
 use Rattle.node_state.specs.Slots.{Slot, Nobody, Home, Asleep, Away, Fated, Gone, IsAsleep, SlotFits}
 use Rattle.node_state.specs.Held.{Held, StandsFor, ListsReady, AreReady, IsFirstAlone, is_in, away_count}
 use Rattle.node_state.specs.Fits.{IsAnswered}
@@ -26,6 +26,7 @@ use Rattle.node_laws.proofs.ReadyList.{true_is_not_false, nat_eq_other, queued-r
 use Rattle.node_laws.proofs.Folds.{told-last, run-next}
 use Rattle.node_laws.proofs.Goes.{Alters, all-one, slots-one, mail-one, deadlines-one, ended-stay, ends-stay, first-is, first-kept, count-alone}
 use Rattle.node_laws.proofs.Takes.{longer}
+use Rattle.node_laws.proofs.Ends.{owes_nothing}
 
 -- The clock is read: a wait ends, or nobody is woken.
 
@@ -123,9 +124,9 @@ pub asleep-there : {E P : Type 0} (engines : Meaning E P) (programs : List P) (p
 asleep-there engines programs p Nobody fits waits = not_waiting p.stage Unborn waits (ap (λ (x : Process). x.stage) fits) refl
 asleep-there engines programs p (Home seat) fits waits = not_waiting p.stage _ waits fits.stage refl
 asleep-there engines programs p (Asleep seat ask) fits waits = (seat, ask, refl)
-asleep-there engines programs p (Away worker) fits waits = not_waiting p.stage _ waits fits.stage refl
-asleep-there engines programs p (Fated worker end) fits waits = not_waiting p.stage _ waits fits.stage refl
-asleep-there engines programs p Gone fits waits = ended_waits p.stage waits fits
+asleep-there engines programs p (Away worker) fits waits = not_waiting p.stage _ waits fits refl
+asleep-there engines programs p (Fated worker end) fits waits = not_waiting p.stage _ waits fits refl
+asleep-there engines programs p Gone fits waits = ended_waits p.stage waits fits.ended
 
 -- process 1 is asleep where it has a deadline
 pub timed-asleep : {E P : Type 0} {engines : Meaning E P} {setting : Setting P} (book : Book) (held : Held E) (d : ℕ) → IsSound (told book) → StandsFor engines setting book (told book) held
@@ -189,12 +190,17 @@ row_broken w now due_one = rw due_one refl
 row_longer : (w : World) (now : ℕ) → due_processes (at_time now w) ≡ [] → row_with (is_early w now) w.row ≡ w.row + 1
 row_longer w now none = rw none refl
 
+-- a request that isn't there is of no ask
+nothing_owed : (f : Ask → Request) (owed : Option Ask) → option_map f owed ≡ None → owed ≡ None
+nothing_owed f None none = refl
+nothing_owed f (Some ask) none = let h : ⊥ = cc in absurd h
+
 -- TICK. The wait of process 1 is over: it is at home, behind the ready list, and its engine has the late reply.
 pub keeps-wake : {E P : Type 0} {engines : Meaning E P} {setting : Setting P} (old new : Book) (was is : Held E) (worker now d : ℕ) (seat : Seat E) (ask : Ask) (engine : E)
     → IsSound (told old) → StandsFor engines setting old (told old) was → was.over ≡ false
     → was.slots 1 ≡ Asleep seat ask → was.deadlines 1 ≡ Some d → d ≤ time_at was.time now
     → IsAnswered engines seat.engine (late_reply (call_of (request_of (engines.memory seat.engine) ask))) engine
-    → WakesOne was is 1 (Home (record { engine = engine; start = seat.start; part = seat.part; fuel = seat.fuel }))
+    → WakesOne was is 1 (Home (record seat { engine = engine }))
     → Counts was is was.sends (time_at was.time now) 0
     → Records old new (Tick worker now) [] → was.out + 2 ≤ old.entry_room
     → StandsFor engines setting new (told new) is
@@ -204,6 +210,7 @@ keeps-wake {E = E} {engines = engines} {setting = setting} old new was is worker
     let entry : Entry = Tick worker now in
     let request : Request = request_of (engines.memory seat.engine) ask in
     let asleep : IsAsleep engines setting.programs (w.process 1) seat ask = subst (λ (s : Slot E). SlotFits engines setting.programs (w.process 1) s) slot_is (m.slots 1) in
+    let unowed : seat.owed ≡ None = nothing_owed (request_of (engines.memory seat.engine)) seat.owed (sym asleep.seated.owed ∙ asleep.owed) in
     let t = timed_by old was d sound keeps timed_is in
     let due_one : due_processes (at_time now w) ≡ 1 ∷ [] = due old was d now sound keeps timed_is ∙ ap (λ (b : Bool). cond b (1 ∷ []) []) (le_true d (time_at was.time now) passed) in
     let v : World = woken (at_time now w) request in
@@ -225,25 +232,28 @@ keeps-wake {E = E} {engines = engines} {setting = setting} old new was is worker
           (rw (append-nil old.ends) (ends-stay setting w.process u.process w.exits old.ends keeps.ended stay keeps.run.ends)));
       mirrors = record {
         ready = rw (wakes.ready, none) (lists_one w v u p alters refl keeps.first (m.ready.same ∙ none) refl refl);
-        slots = slots-one engines setting.programs w u 1 p was is (Home (record { engine = engine; start = seat.start; part = seat.part; fuel = seat.fuel })) (was.mail 1) None after wakes.change
+        slots = slots-one engines setting.programs w u 1 p was is (Home (record seat { engine = engine })) (was.mail 1) None after wakes.change
             (record {
               stage = refl;
-              owed = refl;
               seated = record {
                 stands = λ program found. answered.stands program (w.process 1).start (w.process 1).calls (w.process 1).fuel ask asleep.seated.phase (asleep.seated.stands program found);
                 start = asleep.seated.start;
                 part = asleep.seated.part;
                 fuel = asleep.seated.fuel;
-                phase = answered.running;
+                owed = ap (λ (o : Option Ask). option_map (request_of (engines.memory engine)) o) (sym unowed);
+                phase = answered.running ∙ ap phase_by (sym unowed);
               };
+              tries = owes_nothing (IsOwed (engines.memory engine) seat.part) seat.owed unowed;
             }) m.slots;
-        mail = mail-one w u 1 p was is (Home (record { engine = engine; start = seat.start; part = seat.part; fuel = seat.fuel })) None after (rw (← m.mail 1) at wakes.change) m.mail;
-        deadlines = deadlines-one w u 1 p was is (Home (record { engine = engine; start = seat.start; part = seat.part; fuel = seat.fuel })) (was.mail 1) after wakes.change m.deadlines;
+        mail = mail-one w u 1 p was is (Home (record seat { engine = engine })) None after (rw (← m.mail 1) at wakes.change) m.mail;
+        deadlines = deadlines-one w u 1 p was is (Home (record seat { engine = engine })) (was.mail 1) after wakes.change m.deadlines;
         sends = m.sends ∙ sym counts.sends_are;
         time = ap (λ (time : ℕ). max time now) m.time ∙ sym counts.time_is;
         row = sym counts.row_is;
         over = m.over ∙ sym counts.over;
         out = still_out ∙ sym zero_out ∙ sym wakes.out;
+        streams = m.streams ∙ sym wakes.closes.streams_are;
+        closed = m.closed ∙ sym (wakes.closes.closed_are ∙ append-nil was.closed);
         unlinked = m.unlinked;
       };
       quiet = λ o. true_is_not_false (sym o ∙ counts.over ∙ going);
@@ -291,6 +301,8 @@ keeps-early-tick {E = E} {engines = engines} {setting = setting} old new was is 
         row = ap (λ (n : ℕ). n + 1) m.row ∙ sym counts.row_is;
         over = m.over ∙ sym counts.over;
         out = m.out ∙ sym wakes.out;
+        streams = m.streams ∙ sym wakes.closes.streams_are;
+        closed = m.closed ∙ sym (wakes.closes.closed_are ∙ append-nil was.closed);
         unlinked = m.unlinked;
       };
       quiet = λ o. true_is_not_false (sym o ∙ counts.over ∙ going);

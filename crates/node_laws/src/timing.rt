@@ -40,7 +40,7 @@ pub fn a_wake_keeps<E: Engine>()
         IsAnswered (meaning E.stands E.phase E.memory) seat.engine
         (late_reply (call_of (request_of (E.memory seat.engine) ask))) engine →
         WakesOne was is 1
-        (Home (record { engine = engine; start = seat.start; part = seat.part; fuel = seat.fuel })) →
+        (Home (record seat { engine = engine })) →
         Counts was is was.sends (time_at was.time now) 0 →
         Records old new (EntryIs.Tick worker now) [] → was.out + 2 ≤ old.entry_room →
         StandsFor (meaning E.stands E.phase E.memory) setting new (told new) is }
@@ -74,7 +74,7 @@ pub fn a_stall_keeps<E: Engine>()
     touches();
 }
 
-/// An Idle does, where the row of early Ticks is at least as long as the idle limit.
+/// An Idle does, where the row of Pending gives and early Ticks is at least as long as the idle limit.
 pub fn an_idle_keeps<E: Engine>()
     ensures { (setting : Setting E.Program) (old new : Book) (was is : Held E) (worker : ℕ) (more : List EndMemory) →
         ShowMemory (meaning E.stands E.phase E.memory) setting →
