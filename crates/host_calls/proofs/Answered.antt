@@ -12,10 +12,9 @@ use Rattle.host_port.specs.HostTable.{is_local, is_local_kind, row_of, known_row
 use Rattle.host_port.proofs.RowLaws.{row_if_served, not_served}
 use Rattle.world_rules.specs.Calls.{HostCall, CreateData, all_calls, call_numbered, call_of}
 use Rattle.world_rules.specs.Kinds.{is_local as is_local_request}
-use Rattle.world_rules.specs.Part.{Part, Scratch}
-use Rattle.world_rules.specs.Judge.{Fit, judge, cost_of}
+use Rattle.world_rules.specs.Part.{Part}
+use Rattle.world_rules.specs.Judge.{Fit, judge, charged}
 use Rattle.world_rules.specs.Local.{local, local_reply, local_part}
-use Rattle.host_calls.specs.Shown.{part_with}
 use Rattle.host_calls.specs.Steps.{is_answered}
 
 and_true : (a b : Bool) → (a && b) ≡ true → (a ≡ true) × (b ≡ true)
@@ -90,12 +89,10 @@ known_by call false served local =
 pub is_local_known : (request : Request) → is_local request.ask.call ≡ true → is_local_request request ≡ true
 is_local_known request local = known_by request.ask.call (is_served request.ask.call) refl local
 
--- what the rules answer to a local call that is judged fit, where the scratch area is as it leaves it
-pub answered_so : (start : Start) (scratch after : Option Scratch) (spent traffic : ℕ) (request : Request) (call : HostCall) (reply : Reply) →
-    is_local request.ask.call ≡ true → judge start (part_with scratch spent) request ≡ Fit → call_of request ≡ Some call →
-    reply ≡ local_reply call start (part_with scratch spent) request → traffic ≡ spent + cost_of request →
-    ((n : ℕ) → part_with after n ≡ local_part call start (part_with scratch n) request) →
-    local start (part_with scratch spent) request ≡ Some (reply, part_with after traffic)
-answered_so start scratch after spent traffic request call reply is_local fit at replied cost left =
-    rw (is_local_known request is_local, fit, at)
-    (sym (ap₂ (λ (r : Reply) (p : Part). Some (r, p)) replied (ap (part_with after) cost ∙ left (spent + cost_of request))))
+-- what the rules answer to a local call that is judged fit
+pub answered_so : (start : Start) (was is : Part) (request : Request) (call : HostCall) (reply : Reply) →
+    is_local request.ask.call ≡ true → judge start was request ≡ Fit → call_of request ≡ Some call →
+    reply ≡ local_reply call start was request → is ≡ local_part call start (charged request was) request →
+    local start was request ≡ Some (reply, is)
+answered_so start was is request call reply is_local fit at replied left =
+    rw (is_local_known request is_local, fit, at) (sym (ap₂ (λ (r : Reply) (p : Part). Some (r, p)) replied left))

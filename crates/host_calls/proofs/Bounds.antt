@@ -66,12 +66,12 @@ not_asks state m most b reason ends stops ask is = not_asking state ask ends (rw
 
 module _ {E P : Type 0} (engines : Meaning E P) (at : P → Start → List Call → ℕ → Option Standing) (program : P) (p : Process) where
   -- the run is at its end already
-  pub ends_at_end : (seat : Seat E) (stepped : E) (further : List Call) (n : ℕ) (reason : Stop) →
-      GoesTo engines at program p seat further → length further ≤ 64 → IsAtEnd (state_of (at program p.start (p.calls ++ further) seat.fuel)) →
+  pub ends_at_end : (seat : Seat E) (shed : List ℕ) (stepped : E) (further : List Call) (n : ℕ) (reason : Stop) →
+      GoesTo engines at program p seat shed further → length further ≤ 64 → IsAtEnd (state_of (at program p.start (p.calls ++ further) seat.fuel)) →
       IsStep (at program p.start (p.calls ++ further)) p.start.limits.fuel seat.fuel 1 reason n →
       engines.stands stepped program p.start (p.calls ++ further) (seat.fuel + n) → engines.phase stepped ≡ phase_after reason →
-      HasEnded engines at program p (record { engine = stepped; start = seat.start; part = seat.part; fuel = seat.fuel }) further (halt_after reason)
-  ends_at_end seat stepped further n reason to few ends step there phase =
+      HasEnded engines at program p (record seat { engine = stepped }) shed further (halt_after reason)
+  ends_at_end seat shed stepped further n reason to few ends step there phase =
       let none = none_executed (at program p.start (p.calls ++ further)) p.start.limits.fuel seat.fuel 1 n reason step ends in
       let stops = rw (none, add-zero) at step.stops in
       let there' = rw (none, add-zero) at there in
@@ -87,17 +87,19 @@ module _ {E P : Type 0} (engines : Meaning E P) (at : P → Start → List Call 
             (is_turn (at program p.start) (local p.start) p.start.limits.fuel p.part p.calls p.fuel seat.fuel further seat.part
             (ending_of reason (engines.memory stepped)) to.goes to.gone.grown to.gone.executed few (omega arith) ended);
         judged = judged_after p further reason;
-        phase = phase_fits (engines.phase stepped) (engines.memory stepped) reason phase;
+        phase = phase_fits engines stepped reason phase;
+        closed = to.closed;
       }
 
   -- another instruction is to come
-  pub ends_sliced : (seat : Seat E) (further : List Call) →
-      GoesTo engines at program p seat further → length further ≤ 64 → IsUsedUp (seat.fuel - p.fuel) (length further) →
+  pub ends_sliced : (seat : Seat E) (shed : List ℕ) (further : List Call) →
+      GoesTo engines at program p seat shed further → length further ≤ 64 → IsUsedUp (seat.fuel - p.fuel) (length further) →
       MayStep (state_of (at program p.start (p.calls ++ further) seat.fuel)) → (IsAtEnd (state_of (at program p.start (p.calls ++ further) seat.fuel)) → ⊥) →
-      seat.fuel ≤ p.start.limits.fuel → engines.phase seat.engine ≡ Running → HasEnded engines at program p seat further HaltIs.Slice
-  ends_sliced seat further to few up may not_end fueled running = record {
+      seat.fuel ≤ p.start.limits.fuel → engines.phase seat.engine ≡ Running → HasEnded engines at program p seat shed further HaltIs.Slice
+  ends_sliced seat shed further to few up may not_end fueled running = record {
     gone = to.gone;
     part = to.part;
+    closed = to.closed;
     answered = few;
     turn = record {
       ending = Sliced;

@@ -1,3 +1,10 @@
+pub mod Numbering
+pub mod Handing
+pub mod Listened
+pub mod Moving
+pub mod Faults
+pub mod Showing
+pub mod Making
 pub mod Answered
 pub mod Asked
 pub mod Served
@@ -6,3 +13,14 @@ pub mod Turns
 pub mod Bounds
 pub mod Meets
 pub mod Given
+pub mod Times
+pub mod Apart
+pub mod Keeping
+pub mod Streamings
+pub mod Comes
+pub mod Comings
+pub mod OutsideForms
+pub mod OutsideNames
+pub mod OutsideStreams
+pub mod OutsideComes
+pub mod ListenersKept

@@ -1,5 +1,6 @@
 -- The reply to a local call has the form of the call, and may be given to the engine.
-use Rattle.std.proofs.Common.{◌≡◌, ℕ, ◌+◌, ◌-◌, ◌<◌, ◌≤◌, ◌^◌, ◌&&◌, Bool, true, false, cond, nat_le, is_some, min, take, drop, length, List, [], slice_index, All, IfSome, Option, Some, None, arith, refl, sym, ap, subst, ◌∙◌, if◌then◌else◌}
+use Rattle.std.proofs.Common.{◌≡◌, ℕ, ◌+◌, ◌-◌, ◌<◌, ◌≤◌, ◌^◌, ◌&&◌, Bool, true, false, cond, nat_le, nat_lt, is_some, min, take, drop, length, List, [], slice_index, All, IfSome, Option, Some, None, arith, refl, sym, ap, subst, ◌∙◌, if◌then◌else◌}
+use Rattle.std.specs.Option.{option_map_or}
 use Rattle.std.proofs.lemmas.Bool.Decides.{nat_tests}
 use Rattle.std.proofs.lemmas.List.{length-take}
 use Rattle.std.proofs.lemmas.Option.{some_pair_parts}
@@ -11,7 +12,8 @@ use Rattle.host_port.specs.declared.start.Start.{Start}
 use Rattle.host_port.specs.Areas.{areas_fit, request_of, first_bytes, fits_in}
 use Rattle.host_port.specs.Forms.{HasParts, HasForm}
 use Rattle.host_port.specs.Rows.{Row}
-use Rattle.host_port.specs.MessageRows.{create_data, write_data, read_data, seek_data, data_size, get_tag}
+use Rattle.host_port.specs.MessageRows.{create_data, write_data, read_data, seek_data, data_size, get_tag, push_tcp_stream, take_tcp_stream}
+use Rattle.host_port.specs.NetworkRows.{drop_tcp_stream, drop_tcp_listener}
 use Rattle.host_port.specs.ProcessRows.{process_id}
 use Rattle.host_port.specs.PrintRows.{print}
 use Rattle.host_port.specs.HostTable as Served
@@ -25,9 +27,10 @@ use Rattle.world_rules.specs.Answers.{empty_reply, number_reply, text_reply}
 use Rattle.world_rules.specs.Calls.{HostCall, call_of, call_numbered, arg}
 use Rattle.world_rules.specs.Calls as CallIs
 use Rattle.world_rules.specs.Kinds.{is_local}
-use Rattle.world_rules.specs.Part.{Part, Scratch}
-use Rattle.world_rules.specs.Judge.{Judgement, Fit, Overdrawn, Faulty, judge, judgement_of, fault_of, own_fault, unless, cost_of, charged}
+use Rattle.world_rules.specs.Part.{Part, Scratch, slots_of, handle_at}
+use Rattle.world_rules.specs.Judge.{Judgement, Fit, Overdrawn, Faulty, judge, judgement_of, fault_of, own_fault, unless, needs_handle, push_fault, take_fault, cost_of, charged}
 use Rattle.world_rules.specs.Local.{local, local_reply, local_part, answer_of, if_fit, reply_from, written_bytes, read_bytes}
+use Rattle.host_calls.proofs.Apart.{or_none, unless_so, needed}
 use Rattle.host_calls.proofs.Served.{by_served, local_row}
 
 -- the rows of the local calls that are served
@@ -50,6 +53,22 @@ data_size-row = refl
 get_tag-row : row_of 5 ≡ Some get_tag
 unfolding row_of all_rows is_served
 get_tag-row = refl
+
+push_tcp_stream-row : row_of 6 ≡ Some push_tcp_stream
+unfolding row_of all_rows is_served
+push_tcp_stream-row = refl
+
+take_tcp_stream-row : row_of 7 ≡ Some take_tcp_stream
+unfolding row_of all_rows is_served
+take_tcp_stream-row = refl
+
+drop_tcp_stream-row : row_of 33 ≡ Some drop_tcp_stream
+unfolding row_of all_rows is_served
+drop_tcp_stream-row = refl
+
+drop_tcp_listener-row : row_of 34 ≡ Some drop_tcp_listener
+unfolding row_of all_rows is_served
+drop_tcp_listener-row = refl
 
 print-row : row_of 35 ≡ Some print
 unfolding row_of all_rows is_served
@@ -115,6 +134,31 @@ size_given : (ask : Ask) (reply : Reply) (scratch : Option Scratch) → unless (
     reply ≡ reply_from scratch (λ s. number_reply (told s)) → IfSome reply.result (λ r. r < 2 ^ 64) → HasParts (Some Served.AnyI64) None None ask.args reply
 size_given ask reply None needed told is small = absurd (cc)
 size_given ask reply (Some scratch) needed told is small = number_given ask reply (told scratch) is small
+
+-- a place, which is one of 64
+place_given : (ask : Ask) (reply : Reply) (n : ℕ) → reply ≡ number_reply n → n ≤ 63 → HasParts (Some (Served.UpTo 63)) None None ask.args reply
+place_given ask reply n is few = rw is (record { result = few; count = tt; text_is = refl; word_is = refl })
+
+lt_true : (a b : ℕ) → nat_lt a b ≡ true → a < b
+lt_true a b e = grind (arith, nat_tests)
+
+few_slots : (n : ℕ) → unless (nat_lt n 64) FaultIs.PlacesFull ≡ None → n ≤ 63
+few_slots n none = let less = lt_true n 64 (unless_so (nat_lt n 64) FaultIs.PlacesFull none) in omega (arith, less)
+
+push_few : (part : Part) (handle : ℕ) → push_fault part handle ≡ None → length (slots_of part.scratch) ≤ 63
+push_few part handle none = few_slots (length (slots_of part.scratch)) (or_none (needs_handle part handle) (unless (nat_lt (length (slots_of part.scratch)) 64) FaultIs.PlacesFull) (needed part _
+    none).1).1
+
+-- the number of a stream that was there
+handle_given : (ask : Ask) (reply : Reply) (o : Option ℕ) → is_some o ≡ true → reply ≡ option_map_or number_reply o empty_reply → IfSome reply.result (λ r. r < 2 ^ 64) →
+    HasParts (Some Served.AnyI64) None None ask.args reply
+handle_given ask reply None there is small = absurd (cc)
+handle_given ask reply (Some n) there is small = number_given ask reply n is small
+
+take_there : (part : Part) (place : ℕ) → take_fault part place ≡ None → is_some (handle_at (slots_of part.scratch) place) ≡ true
+take_there part place none =
+    unless_so (is_some (handle_at (slots_of part.scratch) place)) FaultIs.EmptyPlace
+    (or_none (unless (is_some (handle_at (slots_of part.scratch) place)) FaultIs.EmptyPlace) _ (needed part _ none).1).0
 
 least_both : (a b n : ℕ) → n ≡ min a b → (n ≤ a) × (n ≤ b)
 least_both a b n is = (omega arith, omega arith)
@@ -263,6 +307,25 @@ module _ (memory : List ℕ) (start : Start) (part : Part) (request : Request) (
   print_form called own =
       form_by request.ask reply print (row_at 35 print print-row called) (nothing_given request.ask reply (replied 35 CallIs.Print refl called))
 
+  push_form : FormAt 6
+  push_form called own =
+      form_by request.ask reply push_tcp_stream (row_at 6 push_tcp_stream push_tcp_stream-row called)
+      (place_given request.ask reply (length (slots_of part.scratch)) (replied 6 CallIs.PushStream refl called) (push_few part (arg request 0) (needs 6 CallIs.PushStream refl called)))
+
+  take_form : FormAt 7
+  take_form called own =
+      form_by request.ask reply take_tcp_stream (row_at 7 take_tcp_stream take_tcp_stream-row called)
+      (handle_given request.ask reply (handle_at (slots_of part.scratch) (arg request 0)) (take_there part (arg request 0) (needs 7 CallIs.TakeStream refl called))
+      (replied 7 CallIs.TakeStream refl called) is.result)
+
+  drop_stream_form : FormAt 33
+  drop_stream_form called own =
+      form_by request.ask reply drop_tcp_stream (row_at 33 drop_tcp_stream drop_tcp_stream-row called) (nothing_given request.ask reply (replied 33 CallIs.DropStream refl called))
+
+  drop_listener_form : FormAt 34
+  drop_listener_form called own =
+      form_by request.ask reply drop_tcp_listener (row_at 34 drop_tcp_listener drop_tcp_listener-row called) (nothing_given request.ask reply (replied 34 CallIs.DropListener refl called))
+
   foreign_form : (number : ℕ) → Served.is_local number ≡ false → FormAt number
   foreign_form number foreign called own = let no : ⊥ = cc in absurd no
 
@@ -278,6 +341,30 @@ module _ (memory : List ℕ) (start : Start) (part : Part) (request : Request) (
   unfolding row_of all_rows is_served
   sleep_ms-foreign = refl
 
+  bind-foreign : Served.is_local 27 ≡ false
+  unfolding row_of all_rows is_served
+  bind-foreign = refl
+
+  local_port-foreign : Served.is_local 28 ≡ false
+  unfolding row_of all_rows is_served
+  local_port-foreign = refl
+
+  accept-foreign : Served.is_local 29 ≡ false
+  unfolding row_of all_rows is_served
+  accept-foreign = refl
+
+  connect-foreign : Served.is_local 30 ≡ false
+  unfolding row_of all_rows is_served
+  connect-foreign = refl
+
+  read_stream-foreign : Served.is_local 31 ≡ false
+  unfolding row_of all_rows is_served
+  read_stream-foreign = refl
+
+  write_stream-foreign : Served.is_local 32 ≡ false
+  unfolding row_of all_rows is_served
+  write_stream-foreign = refl
+
   reply_form : Served.is_local request.ask.call ≡ true → HasForm request.ask reply
   reply_form own =
       by_served FormAt (
@@ -292,7 +379,49 @@ module _ (memory : List ℕ) (start : Start) (part : Part) (request : Request) (
                 data_size_form,
                 (
                   get_tag_form,
-                  (foreign_form 8 send-foreign, (foreign_form 9 receive-foreign, (process_id_form, (foreign_form 17 sleep_ms-foreign, (print_form, tt))))),
+                  (
+                    push_form,
+                    (
+                      take_form,
+                      (
+                        foreign_form 8 send-foreign,
+                        (
+                          foreign_form 9 receive-foreign,
+                          (
+                            process_id_form,
+                            (
+                              foreign_form 17 sleep_ms-foreign,
+                              (
+                                foreign_form 27 bind-foreign,
+                                (
+                                  foreign_form 28 local_port-foreign,
+                                  (
+                                    foreign_form 29 accept-foreign,
+                                    (
+                                      foreign_form 30 connect-foreign,
+                                      (
+                                        foreign_form 31 read_stream-foreign,
+                                        (
+                                          foreign_form 32 write_stream-foreign,
+                                          (
+                                            drop_stream_form,
+                                            (
+                                              drop_listener_form,
+                                              (print_form, tt),
+                                            ),
+                                          ),
+                                        ),
+                                      ),
+                                    ),
+                                  ),
+                                ),
+                              ),
+                            ),
+                          ),
+                        ),
+                      ),
+                    ),
+                  ),
                 ),
               ),
             ),

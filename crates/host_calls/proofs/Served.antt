@@ -7,7 +7,14 @@ use Rattle.host_port.specs.declared.row.MayCome.TheVariants as comes
 use Rattle.host_port.specs.HostTable as Served
 use Rattle.host_port.specs.HostTable.{Row, all_rows, is_served, served, row_of, known_row_of, may_come_of, is_local_kind}
 use Rattle.host_port.proofs.RowLaws.{row_if_served}
-use Rattle.world_rules.specs.Kinds.{is_local, may_come}
+use Rattle.world_rules.specs.declared.entry.Side.{Side}
+use Rattle.world_rules.specs.declared.entry.Side.TheVariants as SideIs
+use Rattle.world_rules.specs.Kinds.{is_local, may_come, kind_of}
+use Rattle.world_rules.specs.Part.{Part}
+use Rattle.world_rules.specs.World.{World}
+use Rattle.world_rules.specs.Allowed.{SideFits}
+use Rattle.node_state.specs.Fits.{is_outside, kept_ask}
+use Rattle.host_calls.specs.Turning.{IsTimeFor}
 
 some_served : (b : Bool) (known : Option Row) → IsSome (cond b known None) → b ≡ true
 some_served true known there = refl
@@ -25,7 +32,7 @@ abbrev pub AllOf : (ℕ → Type 0) → List ℕ → Type 0
 AllOf G [] = Unit {0}
 AllOf G (number ∷ numbers) = G number × AllOf G numbers
 
-among : (G : ℕ → Type 0) (numbers : List ℕ) (call : ℕ) → AllOf G numbers → list_any (λ number. nat_eq number call) numbers ≡ true → G call
+pub among : (G : ℕ → Type 0) (numbers : List ℕ) (call : ℕ) → AllOf G numbers → list_any (λ number. nat_eq number call) numbers ≡ true → G call
 among G [] call each found = absurd (cc)
 among G (number ∷ numbers) call each found = elim (eqb_tells number call) as (λ _. G call) [
   | inl same ↦ subst G same.1 each.0
@@ -52,13 +59,93 @@ same_kind request there = rw (known_served request.ask.call there) refl
 pub same_beside : (request : Request) → IsSome (row_of request.ask.call) → may_come request ≡ may_come_of request.ask.call
 same_beside request there = rw (known_served request.ask.call there) refl
 
--- beside each call that is served comes nothing or the clock
+-- beside each call that is served and that the outside doesn't answer comes nothing or the clock
 abbrev NothingComes : ℕ → Type 0
-NothingComes call = may_come_of call ≢ Some comes.Clock → may_come_of call ≡ Some comes.Nothing
+NothingComes call = may_come_of call ≢ Some comes.Clock → is_outside (Served.kind_of call) ≡ false → may_come_of call ≡ Some comes.Nothing
+
+true_false : true ≡ false → ⊥
+true_false e = cc
 
 nothing_each : AllOf NothingComes served
 unfolding row_of all_rows is_served
-nothing_each = (λ no. refl, (λ no. refl, (λ no. refl, (λ no. refl, (λ no. refl, (λ no. refl, (λ no. refl, (λ no. absurd (no refl), (λ no. refl, (λ no. absurd (no refl), (λ no. refl, tt)))))))))))
+nothing_each = (
+  λ no own. refl,
+  (
+    λ no own. refl,
+    (
+      λ no own. refl,
+      (
+        λ no own. refl,
+        (
+          λ no own. refl,
+          (
+            λ no own. refl,
+            (
+              λ no own. refl,
+              (
+                λ no own. refl,
+                (
+                  λ no own. refl,
+                  (
+                    λ no own. absurd (no refl),
+                    (
+                      λ no
+                          own. refl,
+                      (
+                        λ no own. absurd (no refl),
+                        (
+                          λ no own. absurd (true_false own),
+                          (
+                            λ no own. absurd (true_false own),
+                            (
+                              λ no own. absurd (true_false own),
+                              (
+                                λ no own. absurd (true_false own),
+                                (
+                                  λ no
+                                      own. absurd (true_false own),
+                                  (λ no own. absurd (true_false own), (λ no own. refl, (λ no own. refl, (λ no own. refl, tt)))),
+                                ),
+                              ),
+                            ),
+                          ),
+                        ),
+                      ),
+                    ),
+                  ),
+                ),
+              ),
+            ),
+          ),
+        ),
+      ),
+    ),
+  ),
+)
 
-pub nothing_comes : (call : ℕ) → IsSome (row_of call) → may_come_of call ≢ Some comes.Clock → may_come_of call ≡ Some comes.Nothing
+pub nothing_comes : (call : ℕ) → IsSome (row_of call) → may_come_of call ≢ Some comes.Clock → is_outside (Served.kind_of call) ≡ false → may_come_of call ≡ Some comes.Nothing
 nothing_comes call there = by_served NothingComes nothing_each call there
+
+-- who performs a call, as its row among the served ones says
+outside_there : (o : Option Row) → is_outside (option_map (λ (row : Row). row.kind) o) ≡ true → IsSome o
+outside_there None is = absurd (cc)
+outside_there (Some row) is = refl
+
+pub outside_known : (request : Request) → is_outside (Served.kind_of request.ask.call) ≡ true → is_outside (kind_of request) ≡ true
+outside_known request is = rw (known_served request.ask.call (outside_there (row_of request.ask.call) is)) is
+
+pub no_kept_ask : (request : Request) → is_outside (Served.kind_of request.ask.call) ≡ false → IsSome (row_of request.ask.call) → kept_ask request ≡ None
+no_kept_ask request isnt there = rw (known_served request.ask.call there, isnt) refl
+
+pub kept_ask_is : (request : Request) → is_outside (kind_of request) ≡ true → kept_ask request ≡ Some request.ask
+kept_ask_is request is = rw is refl
+
+-- the time, or nothing, may stand beside a request that the outside doesn't answer
+pub time_fits : (clock : Option ℕ) (request : Request) (side : Side) → IsTimeFor clock request.ask.call side → is_outside (Served.kind_of request.ask.call) ≡ false →
+    IsSome (row_of request.ask.call) → (w : World) (pid : ℕ) (part : Part) → SideFits (may_come request) w pid part request side
+time_fits clock request SideIs.Nothing is isnt there w pid part = rw (same_beside request there ∙ nothing_comes request.ask.call there is isnt) tt
+time_fits clock request (SideIs.Clock now) is isnt there w pid part = rw (same_beside request there ∙ is.0) tt
+time_fits clock request SideIs.Pending is isnt there w pid part = absurd is
+time_fits clock request (SideIs.Answer reply) is isnt there w pid part = absurd is
+time_fits clock request SideIs.Opened is isnt there w pid part = absurd is
+time_fits clock request SideIs.NoMemory is isnt there w pid part = absurd is

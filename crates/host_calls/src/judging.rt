@@ -6,6 +6,8 @@ ghost use Rattle.world_rules.specs.Judge.{
   judge,
   unless,
   needs_message,
+  needs_handle,
+  needs_listener,
   needs_size,
   needs_spawn_config,
   push_fault,
@@ -34,6 +36,12 @@ pub enum Judgement {
 
 /// The number that names no config: -1 as an i64.
 const NO_CONFIG: u64 = 0xffff_ffff_ffff_ffff;
+
+/// How many streams may be pushed into a message.
+const MOST_PUSHES: u32 = 64;
+
+/// How many streams a table holds.
+const MOST_STREAMS: u32 = 256;
 
 /// How a request of the process is judged: first its areas, then its traffic, then the call's own faults.
 pub fn judge<E: Engine, O: Outside>(proc: &Proc<E, O>, request: &Request) -> Judgement
@@ -85,12 +93,12 @@ fn own_fault<E: Engine, O: Outside>(
         HostCall::SetMaxFuel => Some(HostFault::NoSuchConfig),
         HostCall::GetMaxMemory => Some(HostFault::NoSuchConfig),
         HostCall::GetMaxFuel => Some(HostFault::NoSuchConfig),
-        HostCall::LocalPort => Some(HostFault::NoSuchListener),
-        HostCall::Accept => Some(HostFault::NoSuchListener),
-        HostCall::ReadStream => Some(HostFault::NoSuchHandle),
-        HostCall::WriteStream => Some(HostFault::NoSuchHandle),
-        HostCall::DropStream => Some(HostFault::NoSuchHandle),
-        HostCall::DropListener => Some(HostFault::NoSuchListener),
+        HostCall::LocalPort => listener_fault(proc, argument(request, 0)),
+        HostCall::Accept => listener_fault(proc, argument(request, 0)),
+        HostCall::ReadStream => handle_fault(proc, argument(request, 0)),
+        HostCall::WriteStream => handle_fault(proc, argument(request, 0)),
+        HostCall::DropStream => handle_fault(proc, argument(request, 0)),
+        HostCall::DropListener => listener_fault(proc, argument(request, 0)),
         _ => None,
     }
 }
@@ -122,26 +130,59 @@ fn seek_fault<E: Engine, O: Outside>(proc: &Proc<E, O>, place: u64) -> Option<Ho
     }
 }
 
-/// A scratch message is needed, and then a stream, which there is none.
-fn push_fault<E: Engine, O: Outside>(proc: &Proc<E, O>, handle: u64) -> Option<HostFault>
-    ensures { result ≡ push_fault (shown_part proc.now) handle }
+/// The stream is needed in the own table.
+fn handle_fault<E: Engine, O: Outside>(proc: &Proc<E, O>, handle: u64) -> Option<HostFault>
+    ensures { result ≡ needs_handle (shown_part proc.now) handle }
 {
-    match proc.scratch.tag() {
-        Some(_) => Some(HostFault::NoSuchHandle),
-        None => Some(HostFault::NoMessage),
+    if proc.table.has(handle) {
+        None
+    } else {
+        Some(HostFault::NoSuchHandle)
     }
 }
 
-/// A scratch message is needed, with a stream at the place; the table has room for it.
+/// The listener is needed.
+fn listener_fault<E: Engine, O: Outside>(proc: &Proc<E, O>, listener: u64) -> Option<HostFault>
+    ensures { result ≡ needs_listener (shown_part proc.now) listener }
+{
+    if proc.listeners.has(listener) {
+        None
+    } else {
+        Some(HostFault::NoSuchListener)
+    }
+}
+
+/// A scratch message is needed, then the stream, then a place for it.
+fn push_fault<E: Engine, O: Outside>(proc: &Proc<E, O>, handle: u64) -> Option<HostFault>
+    ensures { result ≡ push_fault (shown_part proc.now) handle }
+{
+    let Some(pushes) = proc.scratch.pushes() else {
+        return Some(HostFault::NoMessage);
+    };
+    if !proc.table.has(handle) {
+        return Some(HostFault::NoSuchHandle);
+    }
+    if pushes < MOST_PUSHES {
+        None
+    } else {
+        Some(HostFault::PlacesFull)
+    }
+}
+
+/// A scratch message is needed, then a stream at the place, then room for it in the table.
 fn take_fault<E: Engine, O: Outside>(proc: &Proc<E, O>, place: u64) -> Option<HostFault>
     ensures { result ≡ take_fault (shown_part proc.now) place }
 {
     if proc.scratch.tag().is_none() {
         return Some(HostFault::NoMessage);
     }
-    match proc.scratch.at(place) {
-        Some(_) => None,
-        None => Some(HostFault::EmptyPlace),
+    if proc.scratch.at(place).is_none() {
+        return Some(HostFault::EmptyPlace);
+    }
+    if proc.table.count() < MOST_STREAMS {
+        None
+    } else {
+        Some(HostFault::TableFull)
     }
 }
 

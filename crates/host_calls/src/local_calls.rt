@@ -1,23 +1,29 @@
-ghost use Rattle.std.specs.Prelude.{◌≡◌, ◌+◌, ℕ, None, Some, true, is_some, option_map, IfOk, OnOk, OnErr, IfSome};
-ghost use Rattle.host_port.specs.declared.start.Start.{Start as TheStart};
-ghost use Rattle.host_port.specs.declared.request.Request.{Request as TheRequest};
+ghost use Rattle.std.specs.Prelude.{◌≡◌, ◌+◌, ◌<◌, ◌++◌, Contains, None, Some, true, is_some, length, option_map, IfOk, OnOk, OnErr, IfSome};
 ghost use Rattle.host_port.specs.HostTable.{is_local};
-ghost use Rattle.message_scratch.specs.Changes.{next_bytes, after_read, is_within};
+ghost use Rattle.message_scratch.specs.Messages.{slots_of};
+ghost use Rattle.message_scratch.specs.Changes.{with_bytes, fitting, next_bytes, after_read, after_seek, is_within};
+ghost use Rattle.message_scratch.specs.Refused.{handed_back};
+ghost use Rattle.resource_table.specs.Handles.{numbers_of, with_handle};
+ghost use Rattle.resource_table.specs.Steps.{told};
 ghost use Rattle.plain_part.specs.Shown.{shown_call};
-ghost use Rattle.world_rules.specs.Answers.{empty_reply, number_reply};
+ghost use Rattle.world_rules.specs.Answers.{empty_reply, number_reply, text_reply};
 ghost use Rattle.world_rules.specs.Calls.{call_of, arg};
-ghost use Rattle.world_rules.specs.Calls as CallIs;
-ghost use Rattle.world_rules.specs.Judge.{Fit, judge, charged, cost_of, own_fault};
-ghost use Rattle.world_rules.specs.Local.{local, local_reply, local_part};
-ghost use Rattle.host_calls.specs.Shown.{shown_scratch, shown_part, part_with};
-ghost use Rattle.host_calls.specs.Steps.{IsStepOf, is_answered};
+ghost use Rattle.world_rules.specs.Handles.{local_closings};
+ghost use Rattle.world_rules.specs.Judge.{Fit, judge, charged, cost_of, own_fault, needs_handle, push_fault, take_fault};
+ghost use Rattle.world_rules.specs.Local.{local, local_reply, reply_from, written_bytes, read_bytes};
+ghost use Rattle.world_rules.specs.Part.{handle_at, slots_of as slots_shown};
+ghost use Rattle.node_state.specs.Seats.{IsOnce};
+ghost use Rattle.host_calls.specs.Shown.{shown_scratch, shown_part, hands_of};
+ghost use Rattle.host_calls.specs.Steps.{AreInOrder, HandsOver, IsStepOf, is_answered, listeners_after};
+ghost use Rattle.host_calls.specs.Answering.{Makes, Creates, Pushes, Takes, DropsStream};
 
 use crate::{Judgement, Proc, judge};
 use host_port::{Bytes, Engine, Reply, Request, Text};
 use memory_refusal::NoMemory;
-use message_scratch::{Scratch, ScratchFault};
-use outside::{BlankStream, Outside};
+use message_scratch::{PushRefused, Scratch, ScratchFault};
+use outside::{Outside, Stream};
 use plain_part::{HostCall, argument, call_of, cost_of};
+use resource_table::{Owned, Resources};
 use std::alloc::Global;
 use world_rules::HostFault;
 
@@ -40,11 +46,17 @@ pub fn local<E: Engine, O: Outside>(
     proc: &mut Proc<E, O>,
     request: &Request,
 ) -> LocalStep
-    requires { is_local request.now.ask.call ≡ true }
+    requires local { is_local request.now.ask.call ≡ true }
+    requires order { AreInOrder proc.old }
     ensures engine { proc.new.engine ≡ proc.old.engine }
     ensures start { proc.new.start ≡ proc.old.start }
     ensures fuel { proc.new.fuel ≡ proc.old.fuel }
+    ensures owed { proc.new.owed ≡ proc.old.owed }
+    ensures order { AreInOrder proc.new }
     ensures step { IsStepOf request.now proc.old proc.new result }
+    ensures handed { HandsOver
+        (told O.Stream.taken O.Stream.put O.Stream.faults O.Stream.waits O.Stream.empties O.Stream.down)
+        (hands_of proc.old) proc.old.shed (hands_of proc.new) proc.new.shed }
 {
     match judge(proc, request) {
         Judgement::Fit => match perform(alloc, proc, request) {
@@ -72,6 +84,11 @@ pub(crate) fn charge<E: Engine, O: Outside>(proc: &mut Proc<E, O>, request: &Req
     ensures engine { proc.new.engine ≡ proc.old.engine }
     ensures start { proc.new.start ≡ proc.old.start }
     ensures fuel { proc.new.fuel ≡ proc.old.fuel }
+    ensures owed { proc.new.owed ≡ proc.old.owed }
+    ensures scratch { proc.new.scratch ≡ proc.old.scratch }
+    ensures table { proc.new.table ≡ proc.old.table }
+    ensures shed { proc.new.shed ≡ proc.old.shed }
+    ensures listeners { proc.new.listeners ≡ proc.old.listeners }
     ensures part { shown_part proc.new ≡ charged request.now (shown_part proc.old) }
 {
     proc.traffic = traffic_after(proc, request);
@@ -85,11 +102,21 @@ pub(crate) fn perform<E: Engine, O: Outside>(
 ) -> Result<Reply, NoMemory>
     requires fit { judge proc.old.start (shown_part proc.old) request.now ≡ Fit }
     requires local { is_local request.now.ask.call ≡ true }
+    requires order { AreInOrder proc.old }
     ensures engine { proc.new.engine ≡ proc.old.engine }
     ensures start { proc.new.start ≡ proc.old.start }
     ensures fuel { proc.new.fuel ≡ proc.old.fuel }
+    ensures owed { proc.new.owed ≡ proc.old.owed }
+    ensures order { AreInOrder proc.new }
     ensures reply { IfOk result (λ reply.
         local proc.old.start (shown_part proc.old) request.now ≡ Some (reply, shown_part proc.new)) }
+    ensures closed { OnOk result (numbers_of proc.new.shed
+        ≡ numbers_of proc.old.shed ++ local_closings (call_of request.now) (shown_part proc.old) request.now) }
+    ensures handed { HandsOver
+        (told O.Stream.taken O.Stream.put O.Stream.faults O.Stream.waits O.Stream.empties O.Stream.down)
+        (hands_of proc.old) proc.old.shed (hands_of proc.new) proc.new.shed }
+    ensures listeners { OnOk result
+        (proc.new.listeners ≡ listeners_after (call_of request.now) request.now proc.old.listeners) }
     ensures err { OnErr result (proc.new ≡ proc.old) }
 {
     let traffic = traffic_after(proc, request);
@@ -101,7 +128,7 @@ pub(crate) fn perform<E: Engine, O: Outside>(
     Ok(reply)
 }
 
-/// What a call answers and makes of the scratch area, whatever the traffic is.
+/// What a call answers and makes of the process, whatever the traffic is.
 fn answer<E: Engine, O: Outside>(
     alloc: Global,
     proc: &mut Proc<E, O>,
@@ -110,29 +137,38 @@ fn answer<E: Engine, O: Outside>(
 ) -> Result<Reply, NoMemory>
     requires answered { is_answered (shown_call call) ≡ true }
     requires fit { own_fault (shown_call call) (shown_part proc.old) request.now ≡ None }
-    ensures engine { proc.new.engine ≡ proc.old.engine }
-    ensures start { proc.new.start ≡ proc.old.start }
-    ensures fuel { proc.new.fuel ≡ proc.old.fuel }
+    requires order { AreInOrder proc.old }
     ensures reply { IfOk result (λ reply.
         reply ≡ local_reply (shown_call call) proc.old.start (shown_part proc.old) request.now) }
-    ensures part { OnOk result ((traffic : ℕ) → part_with (shown_scratch proc.new.scratch) traffic ≡
-        local_part (shown_call call) proc.old.start (part_with (shown_scratch proc.old.scratch) traffic) request.now) }
+    ensures makes { OnOk result (Makes
+        (told O.Stream.taken O.Stream.put O.Stream.faults O.Stream.waits O.Stream.empties O.Stream.down)
+        (shown_call call) request.now proc.old proc.new) }
     ensures err { OnErr result (proc.new ≡ proc.old) }
 {
     match call {
         HostCall::CreateData => {
-            create_data(&mut proc.scratch, request);
+            create_data(proc, argument(request, 0));
             Ok(empty())
         }
         HostCall::WriteData => write_data(&mut proc.scratch, request),
         HostCall::ReadData => read_data(alloc, &mut proc.scratch, request),
         HostCall::SeekData => {
-            seek_data(&mut proc.scratch, request);
+            let _found = proc.scratch.seek(argument(request, 0));
             Ok(empty())
         }
         HostCall::DataSize => Ok(data_size(&proc.scratch)),
         HostCall::GetTag => Ok(get_tag(&proc.scratch)),
+        HostCall::PushStream => Ok(number(push_stream(proc, argument(request, 0))?)),
+        HostCall::TakeStream => Ok(number(take_stream(proc, argument(request, 0)))),
         HostCall::ProcessId => Ok(number(proc.start.pid)),
+        HostCall::DropStream => {
+            drop_stream(proc, argument(request, 0));
+            Ok(empty())
+        }
+        HostCall::DropListener => {
+            proc.listeners.drop_one(argument(request, 0));
+            Ok(empty())
+        }
         HostCall::Print => Ok(empty()),
         _ => unreachable!(),
     }
@@ -160,21 +196,22 @@ fn number(n: u64) -> Reply
     }
 }
 
-/// A new scratch message. The old one has no stream.
-fn create_data(scratch: &mut Scratch<BlankStream>, request: &Request)
-    ensures { (start : TheStart) (traffic : ℕ) → part_with (shown_scratch scratch.new) traffic ≡
-        local_part CallIs.CreateData start (part_with (shown_scratch scratch.old) traffic) request.now }
+/// A new scratch message. The streams of the old one are shut.
+fn create_data<E: Engine, O: Outside>(proc: &mut Proc<E, O>, tag: u64)
+    requires order { AreInOrder proc.old }
+    ensures { Creates (told O.Stream.taken O.Stream.put O.Stream.faults O.Stream.waits O.Stream.empties O.Stream.down)
+        tag proc.old proc.new }
 {
-    scratch.renew(argument(request, 0));
+    proc.scratch.create(tag, &mut proc.shed);
 }
 
 /// Writes behind the bytes of the scratch message, as many as it still holds, and answers how many.
-fn write_data(scratch: &mut Scratch<BlankStream>, request: &Request) -> Result<Reply, NoMemory>
+fn write_data<S: Stream>(scratch: &mut Scratch<S>, request: &Request) -> Result<Reply, NoMemory>
     requires { is_some scratch.old ≡ true }
-    ensures reply { (start : TheStart) (traffic : ℕ) → IfOk result (λ reply. reply ≡
-        local_reply CallIs.WriteData start (part_with (shown_scratch scratch.old) traffic) request.now) }
-    ensures part { (start : TheStart) → OnOk result ((traffic : ℕ) → part_with (shown_scratch scratch.new) traffic ≡
-        local_part CallIs.WriteData start (part_with (shown_scratch scratch.old) traffic) request.now) }
+    ensures reply { IfOk result (λ reply. reply ≡ reply_from (shown_scratch scratch.old)
+        (λ s. number_reply (length (written_bytes s request.now)))) }
+    ensures written { OnOk result
+        (scratch.new ≡ option_map (λ s. with_bytes (fitting request.now.first s) s) scratch.old) }
     ensures err { OnErr result (scratch.new ≡ scratch.old) }
 {
     match scratch.write(request.first.as_slice()) {
@@ -185,16 +222,15 @@ fn write_data(scratch: &mut Scratch<BlankStream>, request: &Request) -> Result<R
 }
 
 /// Reads from the read place of the scratch message on: answers how many bytes, and writes them.
-fn read_data(
+fn read_data<S: Stream>(
     alloc: Global,
-    scratch: &mut Scratch<BlankStream>,
+    scratch: &mut Scratch<S>,
     request: &Request,
 ) -> Result<Reply, NoMemory>
     requires { is_some scratch.old ≡ true }
-    ensures reply { (start : TheStart) (traffic : ℕ) → IfOk result (λ reply. reply ≡
-        local_reply CallIs.ReadData start (part_with (shown_scratch scratch.old) traffic) request.now) }
-    ensures part { (start : TheStart) → OnOk result ((traffic : ℕ) → part_with (shown_scratch scratch.new) traffic ≡
-        local_part CallIs.ReadData start (part_with (shown_scratch scratch.old) traffic) request.now) }
+    ensures reply { IfOk result (λ reply. reply ≡ reply_from (shown_scratch scratch.old)
+        (λ s. text_reply (length (read_bytes s request.now)) (arg request.now 0) (read_bytes s request.now))) }
+    ensures moved { OnOk result (scratch.new ≡ option_map (after_read (arg request.now 1)) scratch.old) }
     ensures err { OnErr result (scratch.new ≡ scratch.old) }
 {
     // No address of 32 bits or more lies in a memory, so no request that was asked ends here.
@@ -210,9 +246,9 @@ fn read_data(
 }
 
 /// A copy of the next bytes of the scratch message, which are read by it.
-fn take_bytes(
+fn take_bytes<S: Stream>(
     alloc: Global,
-    scratch: &mut Scratch<BlankStream>,
+    scratch: &mut Scratch<S>,
     len: u64,
 ) -> Result<Bytes, NoMemory>
     requires { is_some scratch.old ≡ true }
@@ -236,20 +272,10 @@ fn take_bytes(
     }
 }
 
-/// Sets the read place of the scratch message.
-fn seek_data(scratch: &mut Scratch<BlankStream>, request: &Request)
-    requires { IfSome scratch.old (λ s. is_within (arg request.now 0) s ≡ true) }
-    ensures { (start : TheStart) (traffic : ℕ) → part_with (shown_scratch scratch.new) traffic ≡
-        local_part CallIs.SeekData start (part_with (shown_scratch scratch.old) traffic) request.now }
-{
-    let _found = scratch.seek(argument(request, 0));
-}
-
 /// How many bytes the scratch message has.
-fn data_size(scratch: &Scratch<BlankStream>) -> Reply
+fn data_size<S: Stream>(scratch: &Scratch<S>) -> Reply
     requires { is_some scratch.now ≡ true }
-    ensures { (start : TheStart) (traffic : ℕ) (request : TheRequest) → result ≡
-        local_reply CallIs.DataSize start (part_with (shown_scratch scratch.now) traffic) request }
+    ensures { result ≡ reply_from (shown_scratch scratch.now) (λ s. number_reply (length s.message.bytes)) }
 {
     let Some(size) = scratch.size() else {
         unreachable!()
@@ -258,13 +284,87 @@ fn data_size(scratch: &Scratch<BlankStream>) -> Reply
 }
 
 /// The tag of the scratch message.
-fn get_tag(scratch: &Scratch<BlankStream>) -> Reply
+fn get_tag<S: Stream>(scratch: &Scratch<S>) -> Reply
     requires { is_some scratch.now ≡ true }
-    ensures { (start : TheStart) (traffic : ℕ) (request : TheRequest) → result ≡
-        local_reply CallIs.GetTag start (part_with (shown_scratch scratch.now) traffic) request }
+    ensures { result ≡ reply_from (shown_scratch scratch.now) (λ s. number_reply s.message.tag) }
 {
     let Some(tag) = scratch.tag() else {
         unreachable!()
     };
     number(tag)
+}
+
+/// Moves a stream from the table into the next place of the scratch message, and tells that place.
+fn push_stream<E: Engine, O: Outside>(proc: &mut Proc<E, O>, handle: u64) -> Result<u64, NoMemory>
+    requires fit { push_fault (shown_part proc.old) handle ≡ None }
+    ensures place { IfOk result (λ place. place ≡ length (slots_of proc.old.scratch)) }
+    ensures pushes { OnOk result (Pushes handle proc.old proc.new) }
+    ensures err { OnErr result (proc.new ≡ proc.old) }
+{
+    // The table rises, and has 256 places at most.
+    let _count = proc.table.count();
+    let Some(moved) = proc.table.give_out(handle) else {
+        unreachable!()
+    };
+    match proc.scratch.push_stream(moved) {
+        Ok(place) => Ok(place),
+        Err(refused) => {
+            put(&mut proc.table, handed_back(refused));
+            Err(NoMemory)
+        }
+    }
+}
+
+/// The stream that was not pushed.
+fn handed_back<S: Stream>(refused: PushRefused<S>) -> Owned<S>
+    ensures { result ≡ handed_back refused }
+{
+    match refused {
+        PushRefused::NoMessage(back) => back,
+        PushRefused::PlacesFull(back) => back,
+        PushRefused::NoMemory(back) => back,
+    }
+}
+
+/// Moves a stream out of its place in the scratch message into the table, and tells its number.
+fn take_stream<E: Engine, O: Outside>(proc: &mut Proc<E, O>, place: u64) -> u64
+    requires fit { take_fault (shown_part proc.old) place ≡ None }
+    requires once { IsOnce (shown_part proc.old) }
+    ensures number { handle_at (slots_shown (shown_scratch proc.old.scratch)) place ≡ Some result }
+    ensures takes { Takes place proc.old proc.new }
+{
+    let _count = proc.table.count();
+    let Some(moved) = proc.scratch.take_stream(place) else {
+        unreachable!()
+    };
+    let number = moved.number();
+    put(&mut proc.table, moved);
+    number
+}
+
+/// Puts a stream into a table that has room for it.
+fn put<S: Stream>(table: &mut Resources<S>, moved: Owned<S>)
+    requires new { ¬ Contains (numbers_of table.old) moved.number }
+    requires room { length table.old < 256 }
+    ensures { table.new ≡ with_handle moved table.old }
+{
+    match table.put(moved) {
+        Ok(()) => {}
+        Err(_) => unreachable!(),
+    }
+}
+
+/// Shuts a stream of the table.
+fn drop_stream<E: Engine, O: Outside>(proc: &mut Proc<E, O>, handle: u64)
+    requires fit { needs_handle (shown_part proc.old) handle ≡ None }
+    requires order { AreInOrder proc.old }
+    ensures { DropsStream
+        (told O.Stream.taken O.Stream.put O.Stream.faults O.Stream.waits O.Stream.empties O.Stream.down)
+        handle proc.old proc.new }
+{
+    let _count = proc.table.count();
+    let Some(moved) = proc.table.give_out(handle) else {
+        unreachable!()
+    };
+    proc.shed.shut(moved);
 }

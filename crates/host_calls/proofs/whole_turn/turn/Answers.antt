@@ -1,10 +1,23 @@
-use Rattle.host_calls.specs.Shown.{seat_of}
-use Rattle.node_state.specs.Seats.{meaning}
-use Rattle.host_calls.proofs.Given.{may_be_given}
+use Rattle.std.proofs.Common.{◌≡◌, ◌∙◌, ap}
+use Rattle.node_state.specs.Seats.{phase_by}
+use Rattle.host_calls.proofs.Keeping.{begins_in_order}
 use Rattle.host_calls.proofs.whole_turn.turn.Goals as goal
 
-pub returns-clause-given : goal.returns-clause-given
-returns-clause-given g c =
-    let laws = g.met.E.Engine g.world.𝓛 g.world.𝓜 g.world.𝓡 ((λ s x. x), (λ x. x), (λ x. x), λ x. x) in
-    may_be_given (meaning g.E.Engine.stands g.E.Engine.phase g.E.Engine.memory) g.E.Engine.at g.E.Engine.may_ask laws.asks_what_it_may (g.O.Outside.clock c.args.outside.now) g.E.Engine.begin
-    (seat_of c.args.proc) (seat_of c.run-halt.new.proc) c.run-halt.new.calls c.run-halt.result c.side_of-side.result c.run-halt.ensures.ends c.side_of-side.ensures.side
+pub try_again-requires-clause-way : goal.try_again-requires-clause-way
+try_again-requires-clause-way g c κs within =
+    let way = c.requires.way in
+    record { program = way.program; calls = way.calls; stands = way.stands; phase = way.phase ∙ ap phase_by c.in-Some.is }
+
+pub try_again-requires-clause-tries : goal.try_again-requires-clause-tries
+try_again-requires-clause-tries g c κs within = rw c.in-Some.is at c.requires.tries
+
+pub try_again-requires-clause-order : goal.try_again-requires-clause-order
+try_again-requires-clause-order g c κs within = begins_in_order c.args.proc c.requires.once c.requires.shed c.count_few-count.ensures
+
+pub own_turn-requires-clause-way : goal.own_turn-requires-clause-way
+own_turn-requires-clause-way g c κs within =
+    let way = c.requires.way in
+    record { program = way.program; calls = way.calls; stands = way.stands; phase = way.phase ∙ ap phase_by c.in-None.is }
+
+pub own_turn-requires-clause-order : goal.own_turn-requires-clause-order
+own_turn-requires-clause-order g c κs within = begins_in_order c.args.proc c.requires.once c.requires.shed c.count_few-count.ensures
