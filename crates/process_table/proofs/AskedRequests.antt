@@ -13,21 +13,23 @@ use Rattle.world_rules.specs.declared.halt.Halt.TheVariants.{Asks}
 use Rattle.world_rules.specs.declared.halt.HostFault.{HostFault}
 use Rattle.world_rules.specs.declared.halt.HostFault.TheVariants.{BadPointer, NoMessage}
 use Rattle.world_rules.specs.declared.life.Birth.{Birth}
-use Rattle.world_rules.specs.Allowed.{GivesTurn}
-use Rattle.world_rules.specs.Allowed.{TurnFits as IsAllowedTurn}
 use Rattle.world_rules.specs.Calls.{HostCall, call_of}
 use Rattle.world_rules.specs.Judge.{Judgement, Fit, Overdrawn, Faulty, judgement_of, fault_of, unless}
-use Rattle.world_rules.specs.Lives.{Setting, terms_of}
+use Rattle.world_rules.specs.Lives.{Setting}
+use Rattle.world_rules.specs.Settled.{settled, ListenerBound}
+use Rattle.world_rules.specs.Rules.{part_after_turn}
+use Rattle.resource_table.specs.Handles.{numbers_of}
 use Rattle.world_rules.specs.Local.{part_after}
 use Rattle.world_rules.specs.Part.{Part, Scratch}
 use Rattle.world_rules.specs.Views.{Given}
 use Rattle.world_rules.specs.World.{World, Process}
 use Rattle.node_state.specs.Seats.{Meaning}
-use Rattle.node_state.specs.Fits.{TurnFits, give_of}
+use Rattle.node_state.specs.Fits.{TurnFits, give_of, is_bound}
+use Rattle.process_table.proofs.ServedCalls.{own-turn}
 use Rattle.node_laws.proofs.HostRows.{send-called}
 use Rattle.node_laws.proofs.Requests.{asked-fits}
 use Rattle.host_calls.specs.declared.proc.Proc.{Proc}
-use Rattle.host_calls.specs.Shown.{seat_of, shown_part, shown_scratch}
+use Rattle.host_calls.specs.Shown.{seat_of, shown_part, shown_scratch, brought_by}
 
 -- What is known of a request that a turn asks for.
 
@@ -43,19 +45,22 @@ message_there None scratch same none =
     let e : unless false NoMessage ≡ None = subst (λ (s : Option Scratch). unless (is_some s) NoMessage ≡ None) (sym same) none in
     let h : ⊥ = cc in absurd h
 
+bound_scratch : (b : Bool) (part : Part) → (cond b (settled part ListenerBound) part).scratch ≡ part.scratch
+bound_scratch true part = refl
+bound_scratch false part = refl
+
 -- who asks for a send has a scratch message
 pub sender-has : {E O P S L : Type 0} {engines : Meaning E P} {setting : Setting P} (births : List Birth) (w : World) (worker pid : ℕ) (proc : Proc E O P S L) (calls : List Call) (request : Request)
     (side : Side) → request.ask.call ≡ 8
-    → TurnFits engines setting births w worker pid (seat_of proc) calls (Asks request) side → IsSome proc.scratch
+    → TurnFits engines setting births w worker pid (brought_by proc calls (Asks request) side) → IsSome proc.scratch
 sender-has {setting = setting} births w worker pid proc calls request side call fits =
     let p : Process = w.process pid in
-    let give : Given = give_of worker pid calls proc.fuel (Asks request) side in
+    let give : Given = give_of worker pid (brought_by proc calls (Asks request) side) in
     let after : Part = part_after p.start p.part calls in
-    let t : IsAllowedTurn (Some (terms_of setting)) births w p give =
-    subst (λ (o : Option Request). GivesTurn (Some (terms_of setting)) births w p give o) fits.own fits.allowed.turn in
+    let t = (own-turn setting births w p give request p.owed refl fits.allowed.turn fits.turn).0 in
     let none : fault_of (call_of request) after request ≡ None = fit_faultless request.fits _ (fault_of (call_of request) after request) t.halted.judged in
     let here : unless (is_some after.scratch) NoMessage ≡ None = subst (λ (c : Option HostCall). fault_of c after request ≡ None) (send-called request call) none in
-    message_there proc.scratch after.scratch (ap (λ (part : Part). part.scratch) fits.seated.part) here
+    message_there proc.scratch after.scratch (ap (λ (part : Part). part.scratch) fits.seated.part ∙ bound_scratch (is_bound (call_of request) side) (part_after_turn p give)) here
 
 -- TAGS
 
@@ -82,9 +87,9 @@ tags_read memory ask call fits =
 
 pub tags-whole : {E O P S L : Type 0} {engines : Meaning E P} {setting : Setting P} (births : List Birth) (w : World) (worker pid : ℕ) (proc : Proc E O P S L) (calls : List Call) (request : Request)
     (side : Side) → request.ask.call ≡ 9
-    → TurnFits engines setting births w worker pid (seat_of proc) calls (Asks request) side → length request.first % 8 ≡ 0
+    → TurnFits engines setting births w worker pid (brought_by proc calls (Asks request) side) → length request.first % 8 ≡ 0
 tags-whole {engines = engines} births w worker pid proc calls request side call fits =
     let memory : List ℕ = engines.memory proc.engine in
-    let is = fits.phase.1 in
-    let there : areas_fit memory request.ask ≡ true = ap (λ (r : Request). r.fits) (sym is) ∙ asked-fits births w worker pid (seat_of proc) calls request side fits in
+    let is = fits.phase.0.bytes in
+    let there : areas_fit memory request.ask ≡ true = ap (λ (r : Request). r.fits) (sym is) ∙ asked-fits births w worker pid (seat_of proc) calls request side (numbers_of proc.shed) fits in
     subst (λ (r : Request). length r.first % 8 ≡ 0) (sym is) (tags_read memory request.ask call there)

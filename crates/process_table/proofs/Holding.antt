@@ -23,10 +23,12 @@ use Rattle.node_state.specs.Seats.{Meaning}
 use Rattle.node_state.specs.Held.{Held, StandsFor, kept_places}
 use Rattle.node_state.specs.Changes.{ChangesOne}
 use Rattle.node_state.specs.Rows.{AllHaveRows}
-use Rattle.process_table.specs.declared.letter.Letter.{Letter}
+use Rattle.process_table.specs.Letters.{Letter}
 use Rattle.process_table.specs.declared.place.Place.{Place}
-use Rattle.process_table.specs.Seen.{seen, setting_of}
-use Rattle.process_table.specs.Holds.{Fields, NodeKeeps, held_of, slot_of, slot_in, mail_in, letters_in}
+use Rattle.resource_table.specs.Handles.{Handle}
+use Rattle.resource_table.specs.Steps.{Told}
+use Rattle.node_state.specs.Streaming.{StreamsStand}
+use Rattle.process_table.specs.Holds.{Fields, NodeKeeps, HasShedAll, held_of, kept_of, slot_of, slot_in, mail_in, letters_in, hands_at, hands_in, streams_of, streams_at}
 
 -- Fields of a node, and what they hold.
 
@@ -41,24 +43,32 @@ other xs i j x h (inr past) = slice_get_past (slice_set xs i x) j (rw length-set
 pub get_set_other : {X : Type 0} (xs : List X) (i j : ℕ) (x : X) → j ≢ i → slice_get (slice_set xs i x) j ≡ slice_get xs j
 get_set_other xs i j x h = other xs i j x h (slice_get_cases xs j).1
 
--- MAILBOXES: the mailbox of one number is this, and those of all others stay
+-- MAILBOXES: the mailbox of one number is this, with these streams, and those of all others stay
 
-pub record MailIs (old new : List (Mail Letter)) (pid : ℕ) (mail : List MailItem) : Type 0 where
+pub record MailIs {S : Type 0} (old new : List (Mail (Letter S))) (pid : ℕ) (mail : List MailItem) (streams : List (Handle S)) : Type 0 where
   pub here : mail_in (slice_get new pid) ≡ mail
+  pub streams_here : streams_at (slice_get new pid) ≡ streams
   pub others : (q : ℕ) → q ≢ pid → mail_in (slice_get new q) ≡ mail_in (slice_get old q)
+  pub other_streams : (q : ℕ) → q ≢ pid → streams_at (slice_get new q) ≡ streams_at (slice_get old q)
 
-pub mail-same : (mail : List (Mail Letter)) (pid : ℕ) → MailIs mail mail pid (mail_in (slice_get mail pid))
-mail-same mail pid = record { here = refl; others = λ q different. refl }
+pub mail-same : {S : Type 0} (mail : List (Mail (Letter S))) (pid : ℕ) → MailIs mail mail pid (mail_in (slice_get mail pid)) (streams_at (slice_get mail pid))
+mail-same mail pid = record { here = refl; streams_here = refl; others = λ q different. refl; other_streams = λ q different. refl }
 
-pub mail-set : (old new : List (Mail Letter)) (pid : ℕ) (box : Mail Letter) → pid < length old → new ≡ slice_set old pid box → MailIs old new pid (letters_in box)
+pub mail-set : {S : Type 0} (old new : List (Mail (Letter S))) (pid : ℕ) (box : Mail (Letter S)) → pid < length old → new ≡ slice_set old pid box
+    → MailIs old new pid (letters_in box) (streams_of box)
 mail-set old new pid box within is = record {
-  here = ap (λ (xs : List (Mail Letter)). mail_in (slice_get xs pid)) is ∙ ap mail_in (get_set_same old pid box within);
-  others = λ q different. ap (λ (xs : List (Mail Letter)). mail_in (slice_get xs q)) is ∙ ap mail_in (get_set_other old pid q box different);
+  here = ap (λ xs. mail_in (slice_get xs pid)) is ∙ ap mail_in (get_set_same old pid box within);
+  streams_here = ap (λ xs. streams_at (slice_get xs pid)) is ∙ ap streams_at (get_set_same old pid box within);
+  others = λ q different. ap (λ xs. mail_in (slice_get xs q)) is ∙ ap mail_in (get_set_other old pid q box different);
+  other_streams = λ q different. ap (λ xs. streams_at (slice_get xs q)) is ∙ ap streams_at (get_set_other old pid q box different);
 }
 
 -- the mailbox of a number
-pub mail-read : (mail : List (Mail Letter)) (pid : ℕ) (box : Mail Letter) → pid < length mail → box ≡ get_or mail pid box → mail_in (slice_get mail pid) ≡ letters_in box
+pub mail-read : {S : Type 0} (mail : List (Mail (Letter S))) (pid : ℕ) (box : Mail (Letter S)) → pid < length mail → box ≡ get_or mail pid box → mail_in (slice_get mail pid) ≡ letters_in box
 mail-read mail pid box within is = ap mail_in (slice_get_read mail (length mail) pid box refl within is)
+
+pub streams-read : {S : Type 0} (mail : List (Mail (Letter S))) (pid : ℕ) (box : Mail (Letter S)) → pid < length mail → box ≡ get_or mail pid box → streams_at (slice_get mail pid) ≡ streams_of box
+streams-read mail pid box within is = ap streams_at (slice_get_read mail (length mail) pid box refl within is)
 
 -- DEADLINES: the deadline of one number is this, and those of all others stay
 
@@ -107,49 +117,35 @@ no-deadlines deadlines none = by (nat_eq (len deadlines) 0) (λ t. grind (arith,
 
 -- WHAT IS HELD
 
-pub changes : {E O P S L : Type 0} (f g : Fields E O P S L) (pid : ℕ) (place : Place E O P S L) (mail : List MailItem) (deadline : Option ℕ) → pid < length f.places
+pub changes : {E O P S L : Type 0} (f g : Fields E O P S L) (pid : ℕ) (place : Place E O P S L) (mail : List MailItem) (streams : List (Handle S)) (deadline : Option ℕ) → pid < length f.places
     → g.places ≡ slice_set f.places pid place
-    → MailIs f.mail g.mail pid mail → DeadlineIs f.queue.deadlines g.queue.deadlines pid deadline → ChangesOne (held_of f) (held_of g) pid (slot_of place) mail deadline
-changes f g pid place mail deadline within is mails deadlines = record {
-  slot_is = ap (λ (xs : List (Place _ _ _ _ _)). slot_in (slice_get xs pid)) is ∙ ap slot_in (get_set_same f.places pid place within);
+    → MailIs f.mail g.mail pid mail streams → DeadlineIs f.queue.deadlines g.queue.deadlines pid deadline → ChangesOne (held_of f) (held_of g) pid (slot_of place) mail deadline
+changes f g pid place mail streams deadline within is mails deadlines = record {
+  slot_is = ap (λ xs. slot_in (slice_get xs pid)) is ∙ ap slot_in (get_set_same f.places pid place within);
   mail_is = mails.here;
   deadline_is = deadlines.here;
-  other_slots = λ q different. ap (λ (xs : List (Place _ _ _ _ _)). slot_in (slice_get xs q)) is ∙ ap slot_in (get_set_other f.places pid q place different);
+  other_slots = λ q different. ap (λ xs. slot_in (slice_get xs q)) is ∙ ap slot_in (get_set_other f.places pid q place different);
   other_mail = mails.others;
   other_deadlines = deadlines.others;
 }
 
--- the setting stays where the births do
-pub setting-same : {P : Type 0} (begin : P → Start → Option StartRefusal) (at : P → Start → List Call → ℕ → Option Standing) (programs : List P) (old new : Book) (live idle : ℕ)
-    → new.births ≡ old.births → setting_of begin at (seen programs new live idle 0) ≡ setting_of begin at (seen programs old live idle 0)
-setting-same begin at programs old new live idle births =
-    ap (λ (bs : List Birth). record { programs = programs; begin = begin; at = at; first = first_start bs; live = live; idle = idle }) births
+-- the streams in hand at a number whose place is this, and at all others
+pub hands-set : {E O P S L : Type 0} (old new : List (Place E O P S L)) (pid : ℕ) (place : Place E O P S L) → pid < length old → new ≡ slice_set old pid place → hands_in (slice_get new pid) ≡ hands_at place
+hands-set old new pid place within is = ap (λ xs. hands_in (slice_get xs pid)) is ∙ ap hands_in (get_set_same old pid place within)
 
--- what a node keeps, by parts
-pub keeps-parts : {E O P S L : Type 0} {engines : Meaning E P} {may_ask : P → ℕ → Type 0} (begin : P → Start → Option StartRefusal) (at : P → Start → List Call → ℕ → Option Standing)
-    (programs : List P) (old new : Book) (live idle : ℕ) (f g : Fields E O P S L)
-    → NodeKeeps engines may_ask (setting_of begin at (seen programs old live idle 0)) old f
-    → new.births ≡ old.births → StandsFor engines (setting_of begin at (seen programs old live idle 0)) new (told new) (held_of g)
-    → length g.places ≡ length f.places → length g.mail ≡ length f.mail → g.queue.room ≡ f.queue.room
-    → length g.queue.ready + g.out ≤ length f.queue.ready + f.out
-    → NodeKeeps engines may_ask (setting_of begin at (seen programs new live idle 0)) new g
-keeps-parts {engines = engines} begin at programs old new live idle f g keeps births stands places mail room ready = record {
-  stands = subst (λ (s : Setting _). StandsFor engines s new (told new) (held_of g)) (sym (setting-same begin at programs old new live idle births)) stands;
-  places = places ∙ keeps.places;
-  mail = mail ∙ keeps.mail;
-  room = let r = keeps.room in omega (arith, room);
-  ready_room = let r = keeps.ready_room in omega (arith, room, ready);
-  rows = keeps.rows;
-}
+pub hands-other : {E O P S L : Type 0} (old new : List (Place E O P S L)) (pid : ℕ) (place : Place E O P S L) (q : ℕ) → q ≢ pid → new ≡ slice_set old pid place
+    → hands_in (slice_get new q) ≡ hands_in (slice_get old q)
+hands-other old new pid place q different is = ap (λ xs. hands_in (slice_get xs q)) is ∙ ap hands_in (get_set_other old pid q place different)
 
--- SPARE PLACES
+-- THE SETTING
 
--- a Give takes the place that was kept for it
-pub spare-give : (old new out out_after : ℕ) (over : Bool) → new + 1 ≡ old → out ≡ 1 → out_after ≡ 0 → old - kept_places out over ≤ new - kept_places out_after over
-spare-give old new out out_after true e one none = omega (arith, e, one, none)
-spare-give old new out out_after false e one none = omega (arith, e, one, none)
+-- what a run is over, its births being these
+abbrev pub setting_with : {P : Type 0} → (P → Start → Option StartRefusal) → (P → Start → List Call → ℕ → Option Standing) → List P → List Birth → (live idle : ℕ) → Setting P
+setting_with begin at programs births live idle = record { programs = programs; begin = begin; at = at; first = first_start births; live = live; idle = idle }
 
--- and one more is free where the run is over then
-pub spare-end : (old new out out_after : ℕ) (over : Bool) → new + 1 ≡ old → out ≡ 1 → out_after ≡ 0 → old - kept_places out over ≤ new - kept_places out_after true
-spare-end old new out out_after true e one none = omega (arith, e, one, none)
-spare-end old new out out_after false e one none = omega (arith, e, one, none)
+-- what a node keeps, its setting being that of other births that are the same
+pub keeps-at : {E O P S L : Type 0} {engines : Meaning E P} {may_ask : P → ℕ → Type 0} {tells : Told S} (begin : P → Start → Option StartRefusal)
+    (at : P → Start → List Call → ℕ → Option Standing) (programs : List P) (old new : List Birth) (live idle : ℕ) (book : Book) (f : Fields E O P S L) → new ≡ old
+    → NodeKeeps engines may_ask tells (setting_with begin at programs old live idle) book f → NodeKeeps engines may_ask tells (setting_with begin at programs new live idle) book f
+keeps-at {engines = engines} {may_ask = may_ask} {tells = tells} begin at programs old new live idle book f same keeps =
+    subst (λ births. NodeKeeps engines may_ask tells (setting_with begin at programs births live idle) book f) (sym same) keeps

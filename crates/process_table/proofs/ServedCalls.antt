@@ -16,14 +16,15 @@ use Rattle.world_rules.specs.declared.entry.Side.{Side}
 use Rattle.world_rules.specs.declared.entry.Side.TheVariants as SideIs
 use Rattle.world_rules.specs.declared.halt.Halt.TheVariants.{Asks}
 use Rattle.world_rules.specs.declared.life.Birth.{Birth}
-use Rattle.world_rules.specs.Allowed.{GivesTurn, SideFits}
+use Rattle.world_rules.specs.Allowed.{GivesTurn, RetryEndsSo, SideFits}
 use Rattle.world_rules.specs.Allowed.{TurnFits as IsAllowedTurn}
 use Rattle.world_rules.specs.Lives.{Setting, OwnTurnIsRun, IsTurnOfProgram, terms_of}
 use Rattle.world_rules.specs.Part.{Part}
-use Rattle.world_rules.specs.Views.{Given}
+use Rattle.world_rules.specs.Views.{Given, Wants, want_of}
 use Rattle.world_rules.specs.World.{World, Process}
 use Rattle.node_state.specs.Seats.{Meaning, Seat}
-use Rattle.node_state.specs.Fits.{TurnFits, give_of}
+use Rattle.node_state.specs.Fits.{Brought, TurnFits, give_of, is_from_outside}
+use Rattle.host_port.specs.declared.reply.Reply.{Reply}
 use Rattle.node_state.specs.Rows.{AllHaveRows}
 
 both : (a b : Bool) → (a && b) ≡ true → (a ≡ true) × (b ≡ true)
@@ -63,8 +64,14 @@ is_nothing comes.Nothing = true
 is_nothing comes.Clock = false
 is_nothing (comes.Answer pending opened) = false
 
+abbrev is_answer : MayCome → Bool
+is_answer comes.Nothing = false
+is_answer comes.Clock = false
+is_answer (comes.Answer pending opened) = true
+
 abbrev other_is : Row → Bool
-other_is row = is_local_kind (Some row.kind) || ((nat_eq row.call 8 && is_nothing row.may_come) || ((nat_eq row.call 9 || nat_eq row.call 17) && is_clock row.may_come))
+other_is row =
+    is_local_kind (Some row.kind) || (is_answer row.may_come || ((nat_eq row.call 8 && is_nothing row.may_come) || ((nat_eq row.call 9 || nat_eq row.call 17) && is_clock row.may_come)))
 
 other_are : list_all other_is host_table ≡ true
 unfolding all_rows is_served
@@ -75,6 +82,7 @@ pub data AskedCall : ℕ → Option MayCome → Type 0 where
   sends : AskedCall 8 (Some comes.Nothing)
   receives : AskedCall 9 (Some comes.Clock)
   sleeps : AskedCall 17 (Some comes.Clock)
+  outside : (call : ℕ) (pending opened : Bool) → AskedCall call (Some (comes.Answer pending opened))
 
 the_nothing : (m : MayCome) → is_nothing m ≡ true → m ≡ comes.Nothing
 the_nothing comes.Nothing e = refl
@@ -106,12 +114,19 @@ not_local : (b rest : Bool) → (b || rest) ≡ true → b ≡ false → rest �
 not_local true rest e f = absurd (cc)
 not_local false rest e f = e
 
+by_answer : (call : ℕ) (m : MayCome) (rest : Bool) → (is_answer m || rest) ≡ true → (rest ≡ true → AskedCall call (Some m)) → AskedCall call (Some m)
+by_answer call comes.Nothing rest e others = others e
+by_answer call comes.Clock rest e others = others e
+by_answer call (comes.Answer pending opened) rest e others = outside call pending opened
+
 by_row : (call : ℕ) (row : Row) → row_of call ≡ Some row → is_local_kind (Some row.kind) ≡ false → AskedCall call (Some row.may_come)
 by_row call row is foreign =
     let h = served_has other_is other_are call row is in
-    let rest = not_local (is_local_kind (Some row.kind)) ((nat_eq row.call 8 && is_nothing row.may_come) || ((nat_eq row.call 9 || nat_eq row.call 17) && is_clock row.may_come)) h.0 foreign in
+    let world : Bool = (nat_eq row.call 8 && is_nothing row.may_come) || ((nat_eq row.call 9 || nat_eq row.call 17) && is_clock row.may_come) in
+    let rest = not_local (is_local_kind (Some row.kind)) (is_answer row.may_come || world) h.0 foreign in
     subst (λ (n : ℕ). AskedCall n (Some row.may_come)) h.1
-    (by_tests row.call row.may_come (nat_eq row.call 8) (nat_eq row.call 9) (nat_eq row.call 17) (is_nothing row.may_come) (is_clock row.may_come) refl refl refl refl refl rest)
+    (by_answer row.call row.may_come world rest
+    (by_tests row.call row.may_come (nat_eq row.call 8) (nat_eq row.call 9) (nat_eq row.call 17) (is_nothing row.may_come) (is_clock row.may_come) refl refl refl refl refl))
 
 -- the row of a call that is served is its row among all
 known_too : (served : Bool) (known : Option Row) (row : Row) → cond served known None ≡ Some row → known ≡ Some row
@@ -133,56 +148,67 @@ abbrev pub AsksWhatItMay : {E P : Type 0} → Meaning E P → (P → ℕ → Typ
 AsksWhatItMay {E = E} {P = P} engines may_ask =
     (engine : E) (program : P) (start : Start) (calls : List Call) (fuel : ℕ) (ask : Ask) → engines.stands engine program start calls fuel → engines.phase engine ≡ Owing ask → may_ask program ask.call
 
+-- what is brought back with a request
+abbrev pub asking : {E : Type 0} → Seat E → List Call → Request → Side → List ℕ → Brought E
+asking seat calls request side shed = record { seat = seat; calls = calls; halt = Asks request; side = side; shed = shed }
+
+-- who asks has a turn of its own
+pub own-turn : {P : Type 0} (setting : Setting P) (births : List Birth) (w : World) (p : Process) (give : Given) (request : Request) (owed : Option Request) → want_of give.halt ≡ Wants request
+    → GivesTurn (Some (terms_of setting)) births w p give owed → OwnTurnIsRun setting p give owed → IsAllowedTurn (Some (terms_of setting)) births w p give × IsTurnOfProgram setting p give
+own-turn setting births w p give request None wants turn run = (turn, run)
+own-turn setting births w p give request (Some other) wants turn run = absurd (subst (λ want. RetryEndsSo (Some (terms_of setting)) births w p give other want) wants turn.halted)
+
 asked_served : {E P : Type 0} {engines : Meaning E P} {may_ask : P → ℕ → Type 0} {setting : Setting P} → AsksWhatItMay engines may_ask → AllHaveRows may_ask setting.programs
-    → (births : List Birth) (w : World) (worker pid : ℕ) (seat : Seat E) (calls : List Call) (request : Request) (side : Side)
-    → TurnFits engines setting births w worker pid seat calls (Asks request) side → IsSome (row_of request.ask.call)
-asked_served {setting = setting} asks rows births w worker pid seat calls request side fits =
+    → (births : List Birth) (w : World) (worker pid : ℕ) (seat : Seat E) (calls : List Call) (request : Request) (side : Side) (shed : List ℕ)
+    → TurnFits engines setting births w worker pid (asking seat calls request side shed) → IsSome (row_of request.ask.call)
+asked_served {setting = setting} asks rows births w worker pid seat calls request side shed fits =
     let p : Process = w.process pid in
-    let give : Given = give_of worker pid calls seat.fuel (Asks request) side in
-    let turn : IsTurnOfProgram setting p give = subst (λ (o : Option Request). OwnTurnIsRun setting p give o) fits.own fits.turn in
+    let turn = (own-turn setting births w p (give_of worker pid (asking seat calls request side shed)) request p.owed refl fits.allowed.turn fits.turn).1 in
     rows p.start.«module» turn.program turn.found request.ask.call
-    (asks seat.engine turn.program p.start (p.calls ++ calls) seat.fuel request.ask (fits.seated.stands turn.program turn.found) fits.phase.0)
+    (asks seat.engine turn.program p.start (p.calls ++ calls) seat.fuel request.ask (fits.seated.stands turn.program turn.found) fits.phase.0.phase)
 
 -- what comes beside which call
 pub data AskedBeside (call : ℕ) : Side → Type 0 where
   beside_send : call ≡ 8 → AskedBeside call SideIs.Nothing
   beside_receive : (now : ℕ) → call ≡ 9 → AskedBeside call (SideIs.Clock now)
   beside_sleep : (now : ℕ) → call ≡ 17 → AskedBeside call (SideIs.Clock now)
+  beside_pending : AskedBeside call SideIs.Pending
+  beside_answer : (reply : Reply) → AskedBeside call (SideIs.Answer reply)
+  beside_opened : AskedBeside call SideIs.Opened
 
 by_side : (call : ℕ) (m : Option MayCome) (w : World) (pid : ℕ) (part : Part) (request : Request) (side : Side) → AskedCall call m → SideFits m w pid part request side → side ≢ SideIs.NoMemory
     → AskedBeside call side
+by_side call m w pid part request SideIs.Pending asked_call fits asked = beside_pending
+by_side call m w pid part request (SideIs.Answer reply) asked_call fits asked = beside_answer reply
+by_side call m w pid part request SideIs.Opened asked_call fits asked = beside_opened
+by_side call m w pid part request SideIs.NoMemory asked_call fits asked = absurd (asked refl)
 by_side _ _ w pid part request SideIs.Nothing sends fits asked = beside_send refl
-by_side _ _ w pid part request SideIs.NoMemory sends fits asked = absurd (asked refl)
-by_side _ _ w pid part request (SideIs.Clock now) sends fits asked = absurd fits
-by_side _ _ w pid part request SideIs.Pending sends fits asked = absurd fits
-by_side _ _ w pid part request (SideIs.Answer reply) sends fits asked = absurd fits
-by_side _ _ w pid part request SideIs.Opened sends fits asked = absurd fits
-by_side _ _ w pid part request (SideIs.Clock now) receives fits asked = beside_receive now refl
 by_side _ _ w pid part request SideIs.Nothing receives fits asked = absurd fits
-by_side _ _ w pid part request SideIs.NoMemory receives fits asked = absurd fits
-by_side _ _ w pid part request SideIs.Pending receives fits asked = absurd fits
-by_side _ _ w pid part request (SideIs.Answer reply) receives fits asked = absurd fits
-by_side _ _ w pid part request SideIs.Opened receives fits asked = absurd fits
-by_side _ _ w pid part request (SideIs.Clock now) sleeps fits asked = beside_sleep now refl
 by_side _ _ w pid part request SideIs.Nothing sleeps fits asked = absurd fits
-by_side _ _ w pid part request SideIs.NoMemory sleeps fits asked = absurd fits
-by_side _ _ w pid part request SideIs.Pending sleeps fits asked = absurd fits
-by_side _ _ w pid part request (SideIs.Answer reply) sleeps fits asked = absurd fits
-by_side _ _ w pid part request SideIs.Opened sleeps fits asked = absurd fits
+by_side _ _ w pid part request SideIs.Nothing (outside call true true) fits asked = absurd fits
+by_side _ _ w pid part request SideIs.Nothing (outside call true false) fits asked = absurd fits
+by_side _ _ w pid part request SideIs.Nothing (outside call false true) fits asked = absurd fits
+by_side _ _ w pid part request SideIs.Nothing (outside call false false) fits asked = absurd fits
+by_side _ _ w pid part request (SideIs.Clock now) sends fits asked = absurd fits
+by_side _ _ w pid part request (SideIs.Clock now) receives fits asked = beside_receive now refl
+by_side _ _ w pid part request (SideIs.Clock now) sleeps fits asked = beside_sleep now refl
+by_side _ _ w pid part request (SideIs.Clock now) (outside call true true) fits asked = absurd fits
+by_side _ _ w pid part request (SideIs.Clock now) (outside call true false) fits asked = absurd fits
+by_side _ _ w pid part request (SideIs.Clock now) (outside call false true) fits asked = absurd fits
+by_side _ _ w pid part request (SideIs.Clock now) (outside call false false) fits asked = absurd fits
 
--- what a worker brings back with a request asks for a send, a receive or a sleep, with what comes beside it
+-- what a worker brings back with a request asks for a send, a receive or a sleep, or for a call of the outside, with what comes beside it
 pub asked-beside : {E P : Type 0} {engines : Meaning E P} {may_ask : P → ℕ → Type 0} {setting : Setting P} → AsksWhatItMay engines may_ask → AllHaveRows may_ask setting.programs
-    → (births : List Birth) (w : World) (worker pid : ℕ) (seat : Seat E) (calls : List Call) (request : Request) (side : Side)
-    → TurnFits engines setting births w worker pid seat calls (Asks request) side → AskedBeside request.ask.call side
-asked-beside {setting = setting} asks rows births w worker pid seat calls request side fits =
+    → (births : List Birth) (w : World) (worker pid : ℕ) (seat : Seat E) (calls : List Call) (request : Request) (side : Side) (shed : List ℕ)
+    → TurnFits engines setting births w worker pid (asking seat calls request side shed) → AskedBeside request.ask.call side
+asked-beside {setting = setting} asks rows births w worker pid seat calls request side shed fits =
     let p : Process = w.process pid in
-    let give : Given = give_of worker pid calls seat.fuel (Asks request) side in
-    let t : IsAllowedTurn (Some (terms_of setting)) births w p give = subst (λ (o : Option Request). GivesTurn (Some (terms_of setting)) births w p give o) fits.own fits.allowed.turn in
+    let t = (own-turn setting births w p (give_of worker pid (asking seat calls request side shed)) request p.owed refl fits.allowed.turn fits.turn).0 in
     by_side request.ask.call _ w pid _ request side
-    (by_served request.ask.call (row_of request.ask.call) refl (asked_served asks rows births w worker pid seat calls request side fits) t.halted.kind)
+    (by_served request.ask.call (row_of request.ask.call) refl (asked_served asks rows births w worker pid seat calls request side shed fits) t.halted.kind)
     t.halted.beside.side fits.asked
 
--- the call beside which nothing came; those beside which the clock came; and nothing else comes
+-- the call beside which nothing came; those beside which the clock came; and what else comes is of the outside
 pub nothing-sends : (call : ℕ) → AskedBeside call SideIs.Nothing → call ≡ 8
 nothing-sends call (beside_send is) = is
 
@@ -190,7 +216,10 @@ pub clock-waits : (call now : ℕ) → AskedBeside call (SideIs.Clock now) → c
 clock-waits call now (beside_receive _ is) other = is
 clock-waits call now (beside_sleep _ is) other = absurd (other is)
 
-pub nothing-else : (call : ℕ) (side : Side) → AskedBeside call side → side ≢ SideIs.Nothing → ((now : ℕ) → side ≢ SideIs.Clock now) → ⊥
-nothing-else call _ (beside_send is) none clock = none refl
-nothing-else call _ (beside_receive now is) none clock = clock now refl
-nothing-else call _ (beside_sleep now is) none clock = clock now refl
+pub else-outside : (call : ℕ) (side : Side) → AskedBeside call side → side ≢ SideIs.Nothing → ((now : ℕ) → side ≢ SideIs.Clock now) → is_from_outside side ≡ true
+else-outside call _ (beside_send is) none clock = absurd (none refl)
+else-outside call _ (beside_receive now is) none clock = absurd (clock now refl)
+else-outside call _ (beside_sleep now is) none clock = absurd (clock now refl)
+else-outside call _ beside_pending none clock = refl
+else-outside call _ (beside_answer reply) none clock = refl
+else-outside call _ beside_opened none clock = refl

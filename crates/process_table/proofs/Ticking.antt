@@ -1,13 +1,14 @@
-use Rattle.std.proofs.Common.{◌≡◌, ◌≢◌, ◌<◌, ◌≤◌, ◌↔◌, ℕ, ◌+◌, ◌-◌, max, List, [], ◌∷◌, ◌++◌, length, Option, Some, None, IfSome, IsSome, Bool, true, false, cond, nat_le, IsTrue, slice_get}
+use Rattle.std.proofs.Common.{◌≡◌, ◌≢◌, ◌⊎◌, inl, inr, All, append-nil, nat_eq, ◌<◌, ◌≤◌, ◌↔◌, ℕ, ◌+◌, List, [], ◌∷◌, ◌++◌, length, Option, Some, None, IfSome, IsSome, Bool, true}
+use Rattle.std.proofs.Common.{false, cond, nat_le, IsTrue, slice_get}
 use Rattle.std.proofs.Common.{slice_set, get_or, length-set, length-append, refl, arith, sym, ◌∙◌, ap, subst}
 use Rattle.std.specs.Option.{IsSomeAnd}
 use Rattle.std.specs.FinMap.{FinMap, get, remove}
 use Rattle.std.specs.Ordering.{nat_cmp}
-use Rattle.std.proofs.lemmas.Bool.Decides.{nat_tests}
+use Rattle.std.proofs.lemmas.Bool.Decides.{nat_tests, eqb_tells}
+use Rattle.std.proofs.lemmas.List.Elements.{All-set}
 use Rattle.std.proofs.lemmas.List.{set-set}
 use Rattle.std.proofs.lemmas.Option.{slice_get_read}
 use Rattle.run_queue.specs.Schedule.{IsDue}
-use Rattle.tagged_mailbox.specs.Mail.{Mail}
 use Rattle.host_port.specs.declared.ask.Ask.{Ask}
 use Rattle.host_port.specs.declared.request.Request.{Request}
 use Rattle.host_port.specs.declared.call.Call.{Call}
@@ -22,7 +23,7 @@ use Rattle.world_rules.specs.World.{World, Stage, Waiting, is_away}
 use Rattle.node_laws.proofs.Goes.{count-alone}
 use Rattle.world_rules.specs.Book.{Book, AddsEntry}
 use Rattle.world_rules.specs.Calls.{call_of}
-use Rattle.world_rules.specs.Time.{timed_processes, late_reply}
+use Rattle.world_rules.specs.Time.{late_reply}
 use Rattle.world_rules.specs.Told.{told}
 use Rattle.world_rules.specs.Lives.{Setting}
 use Rattle.node_state.specs.Seats.{Meaning, Seat}
@@ -30,20 +31,24 @@ use Rattle.node_state.specs.Slots.{Slot, SlotFits, IsAsleep, Home, Asleep}
 use Rattle.node_state.specs.Held.{StandsFor, kept_places}
 use Rattle.node_state.specs.Fits.{IsAnswered}
 use Rattle.node_state.specs.Posts.{time_at}
-use Rattle.node_state.specs.Changes.{ChangesOne, WakesOne, WakesNone, Counts}
+use Rattle.node_state.specs.Changes.{ChangesOne, WakesOne}
 use Rattle.node_laws.proofs.Programs.{run-told}
 use Rattle.node_laws.proofs.Ticks.{untimed, timed, first-timed, timed-asleep, keeps-wake, keeps-early-tick}
 use Rattle.node_laws.proofs.Shown.{answerable-asleep, front-first}
 use Rattle.host_calls.specs.declared.proc.Proc.{Proc}
-use Rattle.host_calls.specs.Shown.{seat_of, shown_part}
-use Rattle.process_table.specs.declared.letter.Letter.{Letter}
+use Rattle.host_calls.specs.Shown.{seat_of, hands_of}
+use Rattle.resource_table.specs.Handles.{numbers_of}
+use Rattle.resource_table.specs.Steps.{Told}
+use Rattle.node_state.specs.Streaming.{HandsOn}
 use Rattle.process_table.specs.declared.place.Place.{Place}
 use Rattle.process_table.specs.declared.place.Place.TheVariants as PlaceIs
-use Rattle.process_table.specs.Seen.{Seen, seen, setting_of}
-use Rattle.process_table.specs.Holds.{Fields, NodeKeeps, held_of, slot_of, slot_in, mail_in}
+use Rattle.process_table.specs.Seen.{Seen}
+use Rattle.process_table.specs.Holds.{Fields, NodeKeeps, HasShedAll, held_of, kept_of, slot_of, slot_in, mail_in, hands_in, streams_at}
 use Rattle.process_table.specs.Takes.{IsTimed, Ticks}
-use Rattle.process_table.proofs.Holding.{MailIs, changes, mail-same, deadline-removed, setting-same}
-use Rattle.process_table.proofs.Giving.{ToldIsSound, records-alone}
+use Rattle.process_table.proofs.Holding.{setting_with, changes, mail-same, hands-set, hands-other, deadline-removed}
+use Rattle.process_table.proofs.EndingAll.{hands-read}
+use Rattle.process_table.proofs.Handing.{OthersLaw, hands_stay}
+use Rattle.process_table.proofs.Keeping.{SoundLaw, records_one, keeps_new}
 
 -- Time passes.
 
@@ -51,8 +56,8 @@ some_of : (o : Option ℕ) → IsSome o → (d : ℕ) × (o ≡ Some d)
 some_of None some = let h : ⊥ = cc in absurd h
 some_of (Some d) some = (d, refl)
 
-timed_there : {E O P S L : Type 0} {engines : Meaning E P} {may_ask : P → ℕ → Type 0} {setting : Setting P} → ToldIsSound → (book : Book) (f : Fields E O P S L)
-    → NodeKeeps engines may_ask setting book f
+timed_there : {E O P S L : Type 0} {engines : Meaning E P} {may_ask : P → ℕ → Type 0} {tells : Told S} {setting : Setting P} → SoundLaw → (book : Book) (f : Fields E O P S L)
+    → NodeKeeps engines may_ask tells setting book f
     → (pid : ℕ) → IsSome (get f.queue.deadlines pid) → IsTimed (told book)
 timed_there {setting = setting} sounds book f keeps pid some =
     let sound = sounds book (run-told setting book keeps.stands.run) in
@@ -61,7 +66,8 @@ timed_there {setting = setting} sounds book f keeps pid some =
     let here : get f.queue.deadlines 1 ≡ Some d.0 = subst (λ (n : ℕ). get f.queue.deadlines n ≡ Some d.0) one d.1 in
     rw (timed book (held_of f) d.0 sound keeps.stands here) (omega arith)
 
-first_deadline : {E O P S L : Type 0} {engines : Meaning E P} {may_ask : P → ℕ → Type 0} {setting : Setting P} (book : Book) (f : Fields E O P S L) → NodeKeeps engines may_ask setting book f
+first_deadline : {E O P S L : Type 0} {engines : Meaning E P} {may_ask : P → ℕ → Type 0} {tells : Told S} {setting : Setting P} (book : Book) (f : Fields E O P S L)
+    → NodeKeeps engines may_ask tells setting book f
     → IsTimed (told book) → (o : Option ℕ) → get f.queue.deadlines 1 ≡ o → (d : ℕ) × (get f.queue.deadlines 1 ≡ Some d)
 first_deadline book f keeps timed None none = absurd (let l = ap (λ (xs : List ℕ). length xs) (untimed book (held_of f) keeps.stands none) in omega (arith, l, timed))
 first_deadline book f keeps timed (Some d) some = (d, some)
@@ -70,8 +76,8 @@ is_some : (o : Option ℕ) (d : ℕ) → o ≡ Some d → IsSome o
 is_some o d is = rw is refl
 
 -- somebody has a deadline exactly where somebody waits with one
-pub timed-is : {E O P S L : Type 0} {engines : Meaning E P} {may_ask : P → ℕ → Type 0} {setting : Setting P} → ToldIsSound → (book : Book) (f : Fields E O P S L) (b : Bool)
-    → NodeKeeps engines may_ask setting book f
+pub timed-is : {E O P S L : Type 0} {engines : Meaning E P} {may_ask : P → ℕ → Type 0} {tells : Told S} {setting : Setting P} → SoundLaw → (book : Book) (f : Fields E O P S L) (b : Bool)
+    → NodeKeeps engines may_ask tells setting book f
     → IsTrue b ↔ ((pid : ℕ) × IsSome (get f.queue.deadlines pid)) → IsTrue b ↔ IsTimed (told book)
 timed-is sounds book f b keeps is = (
   λ h. timed_there sounds book f keeps (is.0 h).0 (is.0 h).1,
@@ -95,8 +101,8 @@ some_and : (o : Option ℕ) (time : ℕ) → IsSomeAnd o (λ at. at ≤ time) �
 some_and None time due = absurd due
 some_and (Some d) time due = (d, refl, due)
 
-pub is-woken : {E O P S L : Type 0} {engines : Meaning E P} {may_ask : P → ℕ → Type 0} {setting : Setting P} → ToldIsSound → (book : Book) (f : Fields E O P S L) (pid time : ℕ)
-    → NodeKeeps engines may_ask setting book f → IsDue f.queue.deadlines time pid → IsWoken f pid time
+pub is-woken : {E O P S L : Type 0} {engines : Meaning E P} {may_ask : P → ℕ → Type 0} {tells : Told S} {setting : Setting P} → SoundLaw → (book : Book) (f : Fields E O P S L) (pid time : ℕ)
+    → NodeKeeps engines may_ask tells setting book f → IsDue f.queue.deadlines time pid → IsWoken f pid time
 is-woken {setting = setting} sounds book f pid time keeps due =
     let sound = sounds book (run-told setting book keeps.stands.run) in
     let d = some_and (get f.queue.deadlines pid) time due in
@@ -126,8 +132,9 @@ asleep-place (PlaceIs.Fated worker end) seat ask is never = let h : ⊥ = cc in 
 asleep-place PlaceIs.Gone seat ask is never = let h : ⊥ = cc in h
 
 -- its engine may be told that its wait is over
-pub late-answerable : {E O P S L : Type 0} {engines : Meaning E P} {may_ask : P → ℕ → Type 0} {setting : Setting P} (book : Book) (f : Fields E O P S L) (pid time : ℕ) (proc : Proc E O P S L)
-    (ask : Ask) → NodeKeeps engines may_ask setting book f → (woken : IsWoken f pid time)
+pub late-answerable : {E O P S L : Type 0} {engines : Meaning E P} {may_ask : P → ℕ → Type 0} {tells : Told S} {setting : Setting P} (book : Book) (f : Fields E O P S L) (pid time : ℕ)
+    (proc : Proc E O P S L)
+    (ask : Ask) → NodeKeeps engines may_ask tells setting book f → (woken : IsWoken f pid time)
     → slot_of (PlaceIs.Asleep proc ask) ≡ Asleep woken.seat woken.ask → IsAnswerable (engines.phase proc.engine) (engines.memory proc.engine)
     (late_reply (call_of (request_of (engines.memory proc.engine) ask)))
 late-answerable book f pid time proc ask keeps woken is =
@@ -137,95 +144,149 @@ late-answerable book f pid time proc ask keeps woken is =
 waiting_home : (stage : Stage) (request : Request) → stage ≡ Waiting request → is_away stage ≡ false
 waiting_home stage request is = ap is_away is
 
-pub none-out : {E O P S L : Type 0} {engines : Meaning E P} {may_ask : P → ℕ → Type 0} {setting : Setting P} (book : Book) (f : Fields E O P S L) (pid time : ℕ)
-    → NodeKeeps engines may_ask setting book f → IsWoken f pid time → f.out ≡ 0
+pub none-out : {E O P S L : Type 0} {engines : Meaning E P} {may_ask : P → ℕ → Type 0} {tells : Told S} {setting : Setting P} (book : Book) (f : Fields E O P S L) (pid time : ℕ)
+    → NodeKeeps engines may_ask tells setting book f → IsWoken f pid time → f.out ≡ 0
 none-out {E = E} {engines = engines} {setting = setting} book f pid time keeps woken =
     let w : World = told book in
     let asleep : IsAsleep engines setting.programs (w.process 1) woken.seat woken.ask = subst (λ (s : Slot E). SlotFits engines setting.programs (w.process 1) s) woken.asleep
     (keeps.stands.mirrors.slots 1) in
     sym keeps.stands.mirrors.out ∙ count-alone w keeps.stands.first.drawn ∙ ap (λ (b : Bool). cond b 1 0) (waiting_home (w.process 1).stage _ asleep.stage)
 
-few_ready : {E O P S L : Type 0} {engines : Meaning E P} {may_ask : P → ℕ → Type 0} {setting : Setting P} (book : Book) (f : Fields E O P S L) → NodeKeeps engines may_ask setting book f
+few_ready : {E O P S L : Type 0} {engines : Meaning E P} {may_ask : P → ℕ → Type 0} {tells : Told S} {setting : Setting P} (book : Book) (f : Fields E O P S L)
+    → NodeKeeps engines may_ask tells setting book f
     → (ready : List ℕ) → f.queue.ready ≡ ready → length ready ≤ 1
 few_ready book f keeps [] is = omega arith
 few_ready book f keeps (q ∷ rest) is =
     let alone = ap (λ (xs : List ℕ). length xs) (front-first book (held_of f) q rest keeps.stands is).3 in
     omega (arith, alone)
 
-pub woken-room : {E O P S L : Type 0} {engines : Meaning E P} {may_ask : P → ℕ → Type 0} {setting : Setting P} (book : Book) (f : Fields E O P S L) (pid time : ℕ)
-    → NodeKeeps engines may_ask setting book f → IsWoken f pid time → length f.queue.ready + f.out + 1 ≤ f.queue.room
+pub woken-room : {E O P S L : Type 0} {engines : Meaning E P} {may_ask : P → ℕ → Type 0} {tells : Told S} {setting : Setting P} (book : Book) (f : Fields E O P S L) (pid time : ℕ)
+    → NodeKeeps engines may_ask tells setting book f → IsWoken f pid time → length f.queue.ready + f.out + 1 ≤ f.queue.room
 woken-room book f pid time keeps woken =
     let none = none-out book f pid time keeps woken in
     let few = few_ready book f keeps f.queue.ready refl in
     let two = keeps.room in
     omega (arith, none, few, two)
 
-spare_two : (out : ℕ) (over : Bool) (room : ℕ) → over ≡ false → 1 ≤ room - kept_places out over → out + 2 ≤ room
-spare_two out true room going h = let no : ⊥ = cc in absurd no
-spare_two out false room going h = omega (arith, h)
+spare_two : (out spare : ℕ) (over : Bool) (room : ℕ) → over ≡ false → 1 ≤ spare → spare + kept_places out over ≤ room → out + 2 ≤ room
+spare_two out spare true room going one h = let no : ⊥ = cc in absurd no
+spare_two out spare false room going one h = omega (arith, one, h)
 
 -- the place of a Tick
-pub tick-room : (out : ℕ) (over : Bool) (room : ℕ) → 1 ≤ room - kept_places out over → 0 < room
-tick-room out over room h = omega (arith, h)
+tick_place : (out spare room : ℕ) (over : Bool) → 1 ≤ spare → spare + kept_places out over ≤ room → 0 < room
+tick_place out spare room over one h = omega (arith, one, h)
 
-pub spare-tick : (old new out : ℕ) (over : Bool) → new + 1 ≡ old → 1 ≤ old - kept_places out over → new - kept_places out over + 1 ≡ old - kept_places out over
-spare-tick old new out over e h = omega (arith, e, h)
+pub tick-room : {E O P S L : Type 0} {engines : Meaning E P} {may_ask : P → ℕ → Type 0} {tells : Told S} {setting : Setting P} (book : Book) (f : Fields E O P S L)
+    → NodeKeeps engines may_ask tells setting book f → 1 ≤ f.spare → 0 < book.entry_room
+tick-room book f keeps one = tick_place f.out f.spare book.entry_room f.over one keeps.spare_room
+
+spare_ticked : (new old spare left out : ℕ) (over : Bool) → new + 1 ≡ old → left + 1 ≡ spare → spare + kept_places out over ≤ old → left + kept_places out over ≤ new
+spare_ticked new old spare left out true e l h = omega (arith, e, l, h)
+spare_ticked new old spare left out false e l h = omega (arith, e, l, h)
+
+-- what a Tick leaves: the mailboxes, what was counted but for the time, and the streams; one entry less may be recorded
+pub record Times {E O P S L : Type 0} (f g : Fields E O P S L) (now : ℕ) : Type 0 where
+  pub mail : g.mail ≡ f.mail
+  pub room : g.queue.room ≡ f.queue.room
+  pub sends : g.sends ≡ f.sends
+  pub time : g.time ≡ time_at f.time now
+  pub over : g.over ≡ f.over
+  pub out : g.out ≡ f.out
+  pub streams : g.streams ≡ f.streams
+  pub closed : g.closed ≡ f.closed
+  pub closed_room : g.closed_room ≡ f.closed_room
+  pub shed : g.shed ≡ f.shed
+  pub spare : g.spare + 1 ≡ f.spare
 
 -- what a node keeps by a Tick
-keeps_tick : {E O P S L : Type 0} {engines : Meaning E P} {may_ask : P → ℕ → Type 0} (begin : P → Start → Option StartRefusal) (at : P → Start → List Call → ℕ → Option Standing) (programs : List P)
-    (old new : Book) (live idle : ℕ) (f g : Fields E O P S L)
-    → NodeKeeps engines may_ask (setting_of begin at (seen programs old live idle 0)) old f
-    → new.births ≡ old.births → StandsFor engines (setting_of begin at (seen programs old live idle 0)) new (told new) (held_of g)
-    → length g.places ≡ length f.places → g.mail ≡ f.mail → g.queue.room ≡ f.queue.room
+keeps_tick : {E O P S L : Type 0} {engines : Meaning E P} {may_ask : P → ℕ → Type 0} {tells : Told S} → OthersLaw engines tells → (begin : P → Start → Option StartRefusal)
+    (at : P → Start → List Call → ℕ → Option Standing) (programs : List P) (old new : Book) (live idle : ℕ) (f g : Fields E O P S L) (worker now : ℕ)
+    → NodeKeeps engines may_ask tells (setting_with begin at programs old.births live idle) old f
+    → AddsEntry old new (Tick worker now) → StandsFor engines (setting_with begin at programs old.births live idle) new (told new) (held_of g)
+    → ((q : ℕ) → hands_in (slice_get g.places q) ≡ hands_in (slice_get f.places q)) → All HasShedAll g.places
+    → length g.places ≡ length f.places → Times f g now
     → length g.queue.ready + g.out ≤ f.queue.room
-    → NodeKeeps engines may_ask (setting_of begin at (seen programs new live idle 0)) new g
-keeps_tick {engines = engines} begin at programs old new live idle f g keeps births stands places mail room ready = record {
-  stands = subst (λ (s : Setting _). StandsFor engines s new (told new) (held_of g)) (sym (setting-same begin at programs old new live idle births)) stands;
-  places = places ∙ keeps.places;
-  mail = ap (λ (xs : List (Mail Letter)). length xs) mail ∙ keeps.mail;
-  room = let r = keeps.room in omega (arith, room, r);
-  ready_room = omega (arith, room, ready);
-  rows = keeps.rows;
-}
+    → NodeKeeps engines may_ask tells (setting_with begin at programs new.births live idle) new g
+keeps_tick {engines = engines} {tells = tells} law begin at programs old new live idle f g worker now keeps adds stands hands sheds places t ready =
+    let setting = setting_with begin at programs old.births live idle in
+    let was_kept = kept_of f.places f.mail f.closed in
+    let is_kept = kept_of g.places g.mail g.closed in
+    let stay : HandsOn tells was_kept is_kept 1 (was_kept.hands 1 ++ was_kept.mail 1) [] = hands_stay tells was_kept is_kept 1 t.closed hands (λ q. ap (λ xs. streams_at (slice_get xs q)) t.mail) in
+    let streams = law setting old new (held_of f) (held_of g) was_kept is_kept 1 (Tick worker now) [] keeps.stands (λ give e. let h : ⊥ = cc in h) (records_one old new (Tick worker now) adds) stands
+    keeps.streams stay in
+    let out = t.out in
+    let numbers = t.streams in
+    let wide = t.closed_room in
+    let left = t.spare in
+    let bound = keeps.spare_bound in
+    let closed_room = keeps.closed_room in
+    let turn = keeps.turn_room in
+    keeps_new begin at programs old new live idle f g keeps adds.births stands streams places
+    (ap (λ xs. length xs) t.mail) t.room ready (omega (arith, out, numbers, wide, closed_room)) sheds (t.shed ∙ keeps.shed)
+    (rw (t.out, t.over) (spare_ticked new.entry_room old.entry_room f.spare g.spare f.out f.over adds.entry_room t.spare keeps.spare_room))
+    (omega (arith, left, bound))
+    (λ enough. let t = turn (omega (arith, enough, left)) in omega (arith, out, numbers, wide, t))
+
+home_shed : {E O P S L : Type 0} (proc after : Proc E O P S L) (ask : Ask) (place : Place E O P S L) → place ≡ PlaceIs.Asleep proc ask → HasShedAll place → after.shed ≡ proc.shed
+    → HasShedAll (PlaceIs.Home after)
+home_shed proc after ask place is shed same = same ∙ subst HasShedAll is shed
 
 -- TICK. The wait of process 1 is over.
-pub node-wake : {E O P S L : Type 0} {engines : Meaning E P} {may_ask : P → ℕ → Type 0} → ToldIsSound
+pub node-wake : {E O P S L : Type 0} {engines : Meaning E P} {may_ask : P → ℕ → Type 0} {tells : Told S} → SoundLaw → OthersLaw engines tells
     → (begin : P → Start → Option StartRefusal) (at : P → Start → List Call → ℕ → Option Standing) (programs : List P) (old new : Book) (live idle : ℕ) (f g : Fields E O P S L) (worker now pid : ℕ)
     (proc after : Proc E O P S L) (ask : Ask) (place : Place E O P S L)
-    → NodeKeeps engines may_ask (setting_of begin at (seen programs old live idle 0)) old f
-    → (told old).over ≡ false → 1 ≤ old.entry_room - kept_places f.out f.over
+    → NodeKeeps engines may_ask tells (setting_with begin at programs old.births live idle) old f
+    → (told old).over ≡ false → 1 ≤ f.spare
     → IsDue f.queue.deadlines (time_at f.time now) pid → PlaceIs.Asleep proc ask ≡ get_or f.places pid (PlaceIs.Asleep proc ask)
     → IsAnswered engines proc.engine (late_reply (call_of (request_of (engines.memory proc.engine) ask))) after.engine
-    → seat_of after ≡ record { engine = after.engine; start = proc.start; part = shown_part proc; fuel = proc.fuel }
-    → g.places ≡ slice_set (slice_set f.places pid place) pid (PlaceIs.Home after) → g.mail ≡ f.mail
-    → g.queue.ready ≡ f.queue.ready ++ pid ∷ [] → g.queue.deadlines ≡ remove f.queue.deadlines pid → g.queue.room ≡ f.queue.room
-    → g.sends ≡ f.sends → g.time ≡ time_at f.time now → g.row ≡ 0 → g.over ≡ f.over → g.out ≡ f.out
+    → seat_of after ≡ record (seat_of proc) { engine = after.engine } → hands_of after ≡ hands_of proc → after.shed ≡ proc.shed
+    → g.places ≡ slice_set (slice_set f.places pid place) pid (PlaceIs.Home after)
+    → g.queue.ready ≡ f.queue.ready ++ pid ∷ [] → g.queue.deadlines ≡ remove f.queue.deadlines pid → g.row ≡ 0 → Times f g now
     → AddsEntry old new (Tick worker now)
-    → NodeKeeps engines may_ask (setting_of begin at (seen programs new live idle 0)) new g
-node-wake {E = E} {engines = engines} sounds begin at programs old new live idle f g worker now pid proc after ask place keeps going spare due reads answers seat_is places mail ready deadlines room
-    sends time row over out adds =
+    → NodeKeeps engines may_ask tells (setting_with begin at programs new.births live idle) new g
+node-wake {E = E} {engines = engines} sounds law begin at programs old new live idle f g worker now pid proc after ask place keeps going spare due reads answers seat_is hands_are shed_is places ready
+    deadlines row t adds =
     let woken = is-woken sounds old f pid (time_at f.time now) keeps due in
-    let sound = sounds old (run-told (setting_of begin at (seen programs old live idle 0)) old keeps.stands.run) in
+    let sound = sounds old (run-told (setting_with begin at programs old.births live idle) old keeps.stands.run) in
     let read = place-read f pid (time_at f.time now) (PlaceIs.Asleep proc ask) woken reads in
     let one = woken.one in
     let within : pid < length f.places = let w = woken.within in omega (arith, w, one) in
     let set : g.places ≡ slice_set f.places pid (PlaceIs.Home after) = places ∙ set-set f.places pid place (PlaceIs.Home after) in
-    let change = changes f g pid (PlaceIs.Home after) ((held_of f).mail pid) None within set
-    (subst (λ (m : List (Mail Letter)). MailIs f.mail m pid ((held_of f).mail pid)) (sym mail) (mail-same f.mail pid)) (deadline-removed f.queue.deadlines g.queue.deadlines pid deadlines) in
-    let slot : Slot E = Home (record { engine = after.engine; start = proc.start; part = shown_part proc; fuel = proc.fuel }) in
+    let change = changes f g pid (PlaceIs.Home after) ((held_of f).mail pid) (streams_at (slice_get f.mail pid)) None within set
+    (rw t.mail (mail-same f.mail pid)) (deadline-removed f.queue.deadlines g.queue.deadlines pid deadlines) in
+    let slot : Slot E = Home (record (seat_of proc) { engine = after.engine }) in
     let changed : ChangesOne (held_of f) (held_of g) pid slot ((held_of f).mail pid) None = subst (λ (s : Seat E). ChangesOne (held_of f) (held_of g) pid (Home s) ((held_of f).mail pid) None) seat_is
     change in
-    let wakes : WakesOne (held_of f) (held_of g) pid slot = record { change = changed; ready = ready; out = out } in
+    let wakes : WakesOne (held_of f) (held_of g) pid slot = record {
+      change = changed;
+      ready = ready;
+      out = t.out;
+      closes = record { streams_are = t.streams; closed_are = ap numbers_of t.closed ∙ sym (append-nil (numbers_of f.closed)) };
+    } in
     let g_over : f.over ≡ false = sym keeps.stands.mirrors.over ∙ going in
-    let r : f.out + 2 ≤ old.entry_room = spare_two f.out f.over old.entry_room g_over spare in
+    let r : f.out + 2 ≤ old.entry_room = spare_two f.out f.spare f.over old.entry_room g_over spare keeps.spare_room in
     let stands = keeps-wake old new (held_of f) (held_of g) worker now woken.deadline (seat_of proc) ask after.engine sound keeps.stands g_over
     (woken.asleep ∙ sym read) woken.timed woken.passed answers
     (subst (λ (n : ℕ). WakesOne (held_of f) (held_of g) n slot) one wakes)
-    (record { sends_are = sends; time_is = time; row_is = row; over = over }) (records-alone old new (Tick worker now) adds) r in
+    (record { sends_are = t.sends; time_is = t.time; row_is = row; over = t.over }) (records_one old new (Tick worker now) adds) r in
     let l = ap (λ (xs : List ℕ). length xs) ready ∙ length-append f.queue.ready (pid ∷ []) in
     let fits = woken-room old f pid (time_at f.time now) keeps woken in
-    keeps_tick begin at programs old new live idle f g keeps adds.births stands
-    (ap (λ (xs : List (Place _ _ _ _ _)). length xs) set ∙ length-set f.places pid (PlaceIs.Home after)) mail room (omega (arith, l, out, fits))
+    let out = t.out in
+    let here : hands_in (slice_get g.places pid) ≡ hands_in (slice_get f.places pid) =
+    hands-set f.places g.places pid (PlaceIs.Home after) within set ∙ hands_are ∙ sym (hands-read f.places pid (PlaceIs.Asleep proc ask) within reads) in
+    let hands : (q : ℕ) → hands_in (slice_get g.places q) ≡ hands_in (slice_get f.places q) =
+    λ q. by_number q pid (λ k. hands_in (slice_get g.places k) ≡ hands_in (slice_get f.places k)) here (λ different. hands-other f.places g.places pid (PlaceIs.Home after) q different set) in
+    let shed : HasShedAll (PlaceIs.Asleep proc ask) = subst HasShedAll (sym reads) (keeps.sheds pid (PlaceIs.Asleep proc ask) within) in
+    keeps_tick law begin at programs old new live idle f g worker now keeps adds stands hands
+    (subst (All HasShedAll) (sym set) (All-set HasShedAll f.places pid (PlaceIs.Home after) (home_shed proc after ask (PlaceIs.Asleep proc ask) refl shed shed_is) keeps.sheds))
+    (ap (λ xs. length xs) set ∙ length-set f.places pid (PlaceIs.Home after)) t (omega (arith, l, out, fits))
+  where
+    by_number : (q pid : ℕ) (P : ℕ → Type 0) → P pid → (q ≢ pid → P q) → P q
+    by_number q pid P here there = tell (eqb_tells q pid)
+      where
+        tell : ((nat_eq q pid ≡ true) × (q ≡ pid)) ⊎ ((nat_eq q pid ≡ false) × (q ≢ pid)) → P q
+        tell (inl same) = subst P (sym same.1) here
+        tell (inr other) = there other.1
 
 -- NOBODY IS DUE
 
@@ -237,44 +298,46 @@ later d time h = by (nat_le d time) refl
     by false e = grind (arith, nat_tests, e)
 
 -- an early TICK
-pub node-early : {E O P S L : Type 0} {engines : Meaning E P} {may_ask : P → ℕ → Type 0} → ToldIsSound
+pub node-early : {E O P S L : Type 0} {engines : Meaning E P} {may_ask : P → ℕ → Type 0} {tells : Told S} → SoundLaw → OthersLaw engines tells
     → (begin : P → Start → Option StartRefusal) (at : P → Start → List Call → ℕ → Option Standing) (programs : List P) (old new : Book) (live idle : ℕ) (f g : Fields E O P S L) (worker now : ℕ)
-    → NodeKeeps engines may_ask (setting_of begin at (seen programs old live idle 0)) old f
-    → (told old).over ≡ false → 1 ≤ old.entry_room - kept_places f.out f.over → IsTimed (told old)
+    → NodeKeeps engines may_ask tells (setting_with begin at programs old.births live idle) old f
+    → (told old).over ≡ false → 1 ≤ f.spare → IsTimed (told old)
     → ((pid : ℕ) → IsDue f.queue.deadlines (time_at f.time now) pid → ⊥)
-    → g.places ≡ f.places → g.mail ≡ f.mail → g.queue.ready ≡ f.queue.ready → g.queue.deadlines ≡ f.queue.deadlines → g.queue.room ≡ f.queue.room
-    → g.sends ≡ f.sends → g.time ≡ time_at f.time now → g.row ≡ f.row + 1 → g.over ≡ f.over → g.out ≡ f.out
+    → g.places ≡ f.places → g.queue.ready ≡ f.queue.ready → g.queue.deadlines ≡ f.queue.deadlines → g.row ≡ f.row + 1 → Times f g now
     → AddsEntry old new (Tick worker now)
-    → NodeKeeps engines may_ask (setting_of begin at (seen programs new live idle 0)) new g
-node-early {engines = engines} sounds begin at programs old new live idle f g worker now keeps going spare timed none places mail ready deadlines room sends time row over out adds =
-    let sound = sounds old (run-told (setting_of begin at (seen programs old live idle 0)) old keeps.stands.run) in
+    → NodeKeeps engines may_ask tells (setting_with begin at programs new.births live idle) new g
+node-early {engines = engines} sounds law begin at programs old new live idle f g worker now keeps going spare timed none places ready deadlines row t adds =
+    let sound = sounds old (run-told (setting_with begin at programs old.births live idle) old keeps.stands.run) in
     let d = first_deadline old f keeps timed (get f.queue.deadlines 1) refl in
     let g_over : f.over ≡ false = sym keeps.stands.mirrors.over ∙ going in
-    let r : f.out + 2 ≤ old.entry_room = spare_two f.out f.over old.entry_room g_over spare in
+    let r : f.out + 2 ≤ old.entry_room = spare_two f.out f.spare f.over old.entry_room g_over spare keeps.spare_room in
     let early : time_at f.time now < d.0 = later d.0 (time_at f.time now) (λ passed. none 1 (rw d.1 passed)) in
     let stands = keeps-early-tick old new (held_of f) (held_of g) worker now d.0 sound keeps.stands g_over d.1 early
     (record {
-      slots = λ q. ap (λ (xs : List (Place _ _ _ _ _)). slot_in (slice_get xs q)) places;
-      mail = λ q. ap (λ (xs : List (Mail Letter)). mail_in (slice_get xs q)) mail;
+      slots = λ q. ap (λ xs. slot_in (slice_get xs q)) places;
+      mail = λ q. ap (λ xs. mail_in (slice_get xs q)) t.mail;
       deadlines = λ q. ap (λ (m : FinMap nat_cmp ℕ). get m q) deadlines;
       ready = ready;
-      out = out;
+      out = t.out;
+      closes = record { streams_are = t.streams; closed_are = ap numbers_of t.closed ∙ sym (append-nil (numbers_of f.closed)) };
     })
-    (record { sends_are = sends; time_is = time; row_is = row; over = over }) (records-alone old new (Tick worker now) adds) r in
+    (record { sends_are = t.sends; time_is = t.time; row_is = row; over = t.over }) (records_one old new (Tick worker now) adds) r in
     let l = ap (λ (xs : List ℕ). length xs) ready in
     let fits = keeps.ready_room in
-    keeps_tick begin at programs old new live idle f g keeps adds.births stands
-    (ap (λ (xs : List (Place _ _ _ _ _)). length xs) places) mail room (omega (arith, l, out, fits))
+    let out = t.out in
+    keeps_tick law begin at programs old new live idle f g worker now keeps adds stands (λ q. ap (λ xs. hands_in (slice_get xs q)) places)
+    (subst (All HasShedAll) (sym places) keeps.sheds)
+    (ap (λ xs. length xs) places) t (omega (arith, l, out, fits))
 
 -- the row is shorter than the journal with the Tick
-pub row-shorter : {E O P S L : Type 0} {engines : Meaning E P} {may_ask : P → ℕ → Type 0} {setting : Setting P} (old new : Book) (f : Fields E O P S L) (worker now : ℕ)
-    → NodeKeeps engines may_ask setting old f → AddsEntry old new (Tick worker now) → f.row < length new.entries
+pub row-shorter : {E O P S L : Type 0} {engines : Meaning E P} {may_ask : P → ℕ → Type 0} {tells : Told S} {setting : Setting P} (old new : Book) (f : Fields E O P S L) (worker now : ℕ)
+    → NodeKeeps engines may_ask tells setting old f → AddsEntry old new (Tick worker now) → f.row < length new.entries
 row-shorter old new f worker now keeps adds =
     let l = ap (λ (xs : List Entry). length xs) adds.entries ∙ length-append old.entries (Tick worker now ∷ []) in
     let b = keeps.stands.row_bound in
     omega (arith, l, b)
 
 -- what a Tick shows
-pub shows-tick : {P : Type 0} (old new : Seen P) (worker now : ℕ) (clock : Option ℕ) → IfSome clock (λ time. now ≡ time) → AddsEntry old.book new.book (Tick worker now) → new.spare + 1 ≡ old.spare
+pub shows-tick : {P S : Type 0} (old new : Seen P S) (worker now : ℕ) (clock : Option ℕ) → IfSome clock (λ time. now ≡ time) → AddsEntry old.book new.book (Tick worker now) → new.spare + 1 ≡ old.spare
     → Ticks old new worker clock
-shows-tick old new worker now clock told adds spare = record { now = now; told = told; recorded = records-alone old.book new.book (Tick worker now) adds; spare = spare }
+shows-tick old new worker now clock told adds spare = record { now = now; told = told; recorded = records_one old.book new.book (Tick worker now) adds; spare = spare }

@@ -1,3 +1,6 @@
+pub mod Letters
 pub mod Seen
 pub mod Holds
 pub mod Takes
+pub mod Begins
+pub mod Gives

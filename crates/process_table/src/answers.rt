@@ -1,10 +1,10 @@
 ghost use Rattle.std.specs.Prelude.{◌≡◌, ◌+◌, ◌<◌, ◌^◌};
-ghost use Rattle.world_rules.specs.Answers.{empty_reply, number_reply};
+ghost use Rattle.world_rules.specs.Answers.{empty_reply, number_reply, written_reply};
 ghost use Rattle.world_rules.specs.Calls.{call_numbered};
 ghost use Rattle.world_rules.specs.Time.{late_reply};
-ghost use Rattle.node_state.specs.Posts.{code_of, side_of, sends_after, receipt_code};
+ghost use Rattle.node_state.specs.Posts.{code_of, side_of, sends_after, receipt_code, id_of};
 
-use host_port::Reply;
+use host_port::{Ask, Reply, Word};
 use node_state::{Post, Receipt};
 use plain_part::{HostCall, call_numbered};
 use world_rules::Side;
@@ -28,6 +28,31 @@ pub fn number_reply(n: u64) -> Reply
         result: Some(n),
         word: None,
         text: None,
+    }
+}
+
+/// A reply of a number, with eight bytes written at this address.
+pub fn written_reply(result_number: u64, addr: u32, value: u64) -> Reply
+    ensures { result ≡ written_reply result_number addr value }
+{
+    Reply {
+        result: Some(result_number),
+        word: Some(Word {
+            addr,
+            width: 8,
+            value,
+        }),
+        text: None,
+    }
+}
+
+/// Where the number of an opened stream is written, by the ask of an accept or of a connect.
+pub fn id_of(ask: &Ask) -> u64
+    ensures { result ≡ id_of ask.now }
+{
+    match call_numbered(ask.call) {
+        Some(HostCall::Accept) => ask.args[1],
+        _ => ask.args[2],
     }
 }
 

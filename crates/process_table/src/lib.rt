@@ -5,6 +5,7 @@
 #![tactic(auto)]
 
 mod answers;
+mod closing;
 mod letter;
 mod mailbox;
 mod node;

@@ -1,40 +1,43 @@
 ghost use Rattle.std.specs.Prelude.{◌≡◌, ◌≢◌, ◌<◌, ◌≤◌, List, [], ◌∷◌, IfOk, IfErr, OnOk, Some, None};
-ghost use Rattle.std.specs.Prelude.{map, slice_get, length, true};
+ghost use Rattle.std.specs.Prelude.{map, slice_get, length, true, vec_capacity};
 ghost use Rattle.std.specs.Arc.{arc_value};
 ghost use Rattle.std.specs.FinMap.{empty};
+ghost use Rattle.resource_table.specs.Steps.{told};
 ghost use Rattle.host_port.specs.declared.start.StartRefusal.TheVariants.{NoMemory as NoMemoryLeft};
 ghost use Rattle.world_rules.specs.Book.{KeepsAll};
 ghost use Rattle.world_rules.specs.Lives.{IsRun};
 ghost use Rattle.node_state.specs.Rows.{AllHaveRows};
 ghost use Rattle.process_table.specs.declared.place.Place.TheVariants.{Nobody, Home};
-ghost use Rattle.process_table.specs.Seen.{setting_of, world_of};
-ghost use Rattle.process_table.specs.Holds.{letters_in};
+ghost use Rattle.process_table.specs.Seen.{KeepsStreams, setting_of, world_of};
 ghost use Rattle.process_table.specs.Takes.{SameTerms, BeginsWith, away_in};
+ghost use Rattle.process_table.specs.Begins.{HoldsNothing};
 
 mod ask;
 mod give;
+mod network;
 mod take;
 mod tick;
 
 use crate::Letter;
-use crate::place::Place;
+use crate::place::{Place, let_go};
 use host_calls::Proc;
 use host_port::{Engine, Start, StartRefusal};
 use journal::Journal;
 use memory_refusal::NoMemory;
-use outside::Outside;
+use node_laws::streams_stand_apart;
+use outside::{Outside, Stream};
+use resource_table::{Owned, Shed};
 use run_queue::Queue;
 use std::alloc::Global;
 use std::marker::Model;
 use std::sync::Arc;
 use tagged_mailbox::Mailbox;
-use world_rules::Birth;
+use world_rules::{Birth, sound, touches};
 
 /// One state of all processes, with its journal.
 ///
 /// After every call the journal is a run: each process at home is its program's run on its own start and replies, and
 /// each reply is the one-thread world's.
-#[derive(Drop)]
 pub struct Node<E: Engine, O: Outside> {
     alloc: Global,
     programs: Vec<Arc<E::Program>>,
@@ -44,37 +47,47 @@ pub struct Node<E: Engine, O: Outside> {
     /// What stands at each number.
     places: Vec<Place<E, O>>,
     /// The mailbox of each number.
-    mail: Vec<Mailbox<Letter>>,
+    mail: Vec<Mailbox<Letter<O::Stream>>>,
     /// The processes that are ready, and the deadlines of those that wait.
     queue: Queue,
     /// How many sends were answered 0.
     sends: u64,
     /// The time in milliseconds.
     time: u64,
-    /// How many early Ticks the last entries are, Takes left aside.
+    /// How many Pending gives and early Ticks the last entries are, Takes left aside.
     row: u64,
     /// How many processes a worker has.
     out: u32,
     over: bool,
+    /// How many stream numbers were drawn.
+    streams: u64,
+    /// The closed streams, in the order of closing. There is room for each that was drawn.
+    closed: Vec<Owned<O::Stream>>,
+    /// Through it the streams of mailboxes are closed. It is empty between calls.
+    shed: Shed<O::Stream>,
+    /// How many entries may be recorded beside the Gives that are to come, and Starve.
+    spare: u32,
 }
 
 impl<E: Engine, O: Outside> Model for Node<E, O> {
-    ghost use Rattle.std.specs.Prelude.{◌-◌, map};
+    ghost use Rattle.std.specs.Prelude.{map, vec_capacity};
     ghost use Rattle.std.specs.Arc.{arc_value};
     ghost use Rattle.node_state.specs.Seats.{meaning};
-    ghost use Rattle.node_state.specs.Held.{kept_places};
+    ghost use Rattle.resource_table.specs.Steps.{told};
     ghost use Rattle.process_table.specs.Seen.{Seen, seen, setting_of};
-    ghost use Rattle.process_table.specs.Holds.{NodeKeeps};
+    ghost use Rattle.process_table.specs.Holds.{NodeKeeps, hands_at, streams_of};
 
-    ghost Value = { Seen E.Program };
+    ghost Value = { Seen E.Program O.Stream };
 
     ghost view = { λ a.
-        seen (map arc_value a.programs.items) a.journal a.live a.idle
-        (a.journal.entry_room - kept_places a.out a.over) };
+        seen (map arc_value a.programs.items) a.journal a.live a.idle a.spare
+        (map hands_at a.places.items) (map streams_of a.mail.items) a.closed.items };
 
     ghost invariant = { λ a.
         NodeKeeps (meaning E.stands E.phase E.memory) E.may_ask
-        (setting_of E.begin E.at (seen (map arc_value a.programs.items) a.journal a.live a.idle 0)) a.journal
+        (told O.Stream.taken O.Stream.put O.Stream.faults O.Stream.waits O.Stream.empties O.Stream.down)
+        (setting_of E.begin E.at (seen (map arc_value a.programs.items) a.journal a.live a.idle 0
+        (map hands_at a.places.items) (map streams_of a.mail.items) a.closed.items)) a.journal
         (record {
           places = a.places.items;
           mail = a.mail.items;
@@ -84,6 +97,11 @@ impl<E: Engine, O: Outside> Model for Node<E, O> {
           row = a.row;
           out = a.out;
           over = a.over;
+          streams = a.streams;
+          closed = a.closed.items;
+          closed_room = vec_capacity a.closed;
+          shed = a.shed;
+          spare = a.spare;
         }) };
 }
 
@@ -93,27 +111,72 @@ const FIRST: u64 = 1;
 /// How many numbers there are, from 0 on.
 const NUMBERS: usize = 2;
 
-/// A place for the numbers 0 and 1: process 1 is at home.
-fn first_places<E: Engine, O: Outside>(
-    alloc: Global,
-    proc: Proc<E, O>,
-) -> Result<Vec<Place<E, O>>, NoMemory>
-    ensures { IfOk result (λ places. places.items ≡ Nobody ∷ Home proc ∷ []) }
-{
-    let mut places = Vec::with_capacity(alloc, NUMBERS)?;
-    places.push_reserved(Place::Nobody);
-    places.push_reserved(Place::Home(proc));
-    Ok(places)
+/// The entries of a tick, and of one take and its give.
+const SPARE: u32 = 3;
+
+/// What a node holds where process 1 is at home, and nothing else is there.
+struct Holdings<E: Engine, O: Outside> {
+    places: Vec<Place<E, O>>,
+    mail: Vec<Mailbox<Letter<O::Stream>>>,
+    shed: Shed<O::Stream>,
 }
 
-/// An empty mailbox for the numbers 0 and 1.
-fn first_mail(alloc: Global) -> Result<Vec<Mailbox<Letter>>, NoMemory>
-    ensures { IfOk result (λ mail. map letters_in mail.items ≡ [] ∷ [] ∷ []) }
+/// The places of the numbers 0 and 1: process 1 is at home.
+fn fill_places<E: Engine, O: Outside>(places: &mut Vec<Place<E, O>>, proc: Proc<E, O>)
+    requires empty { places.old.items ≡ [] }
+    requires room { 2 ≤ vec_capacity places.old }
+    ensures { places.new.items ≡ Nobody ∷ Home proc ∷ [] }
 {
-    let mut mail = Vec::with_capacity(alloc, NUMBERS)?;
+    places.push_reserved(Place::Nobody);
+    places.push_reserved(Place::Home(proc));
+}
+
+/// An empty mailbox for each of the numbers 0 and 1.
+fn fill_mail<S: Stream>(alloc: Global, mail: &mut Vec<Mailbox<Letter<S>>>)
+    requires empty { mail.old.items ≡ [] }
+    requires room { 2 ≤ vec_capacity mail.old }
+    ensures { map (λ box. box.items) mail.new.items ≡ [] ∷ [] ∷ [] }
+{
     mail.push_reserved(Mailbox::new(alloc));
     mail.push_reserved(Mailbox::new(alloc));
-    Ok(mail)
+}
+
+/// Process 1 at home, with this engine and this start, and an empty mailbox.
+fn first_holdings<E: Engine, O: Outside>(
+    alloc: Global,
+    engine: E,
+    start: Start,
+) -> Result<Holdings<E, O>, NoMemory>
+    ensures { IfOk result (λ holdings. HoldsNothing engine start holdings) }
+{
+    let shed = Shed::new(alloc)?;
+    let mut places = match Vec::with_capacity(alloc, NUMBERS) {
+        Ok(places) => places,
+        Err(_) => {
+            shed.destroy_empty();
+            return Err(NoMemory);
+        }
+    };
+    let mut mail = match Vec::with_capacity(alloc, NUMBERS) {
+        Ok(mail) => mail,
+        Err(_) => {
+            shed.destroy_empty();
+            places.destroy_empty();
+            return Err(NoMemory);
+        }
+    };
+    let proc = match Proc::new(alloc, engine, start) {
+        Ok(proc) => proc,
+        Err(NoMemory) => {
+            shed.destroy_empty();
+            places.destroy_empty();
+            mail.destroy_empty();
+            return Err(NoMemory);
+        }
+    };
+    fill_places(&mut places, proc);
+    fill_mail(alloc, &mut mail);
+    Ok(Holdings { places, mail, shed })
 }
 
 /// A queue in which process 1 is ready and nobody waits.
@@ -159,6 +222,9 @@ impl<E: Engine, O: Outside> Node<E, O> {
         ensures live { IfOk result (λ node. node.live ≡ live) }
         ensures idle { IfOk result (λ node. node.idle ≡ idle) }
         ensures begins { IfOk result (λ node. BeginsWith start node.book) }
+        ensures closed { IfOk result (λ node. node.closed_kept ≡ []) }
+        ensures streams { IfOk result (λ node. KeepsStreams
+            (told O.Stream.taken O.Stream.put O.Stream.faults O.Stream.waits O.Stream.empties O.Stream.down) node) }
         ensures run { IfOk result (λ node. IsRun (setting_of E.begin E.at node) node.book) }
         ensures refused { IfErr result (λ why. why ≢ NoMemoryLeft → (program : E.Program) →
             slice_get (map arc_value programs.items) start.module ≡ Some program → E.begin program start ≡ Some why) }
@@ -169,17 +235,12 @@ impl<E: Engine, O: Outside> Node<E, O> {
         let Ok(journal) = first_journal(alloc, &start) else {
             return Err(StartRefusal::NoMemory);
         };
-        let Ok(mail) = first_mail(alloc) else {
-            return Err(StartRefusal::NoMemory);
-        };
         let Ok(queue) = first_queue(alloc) else {
             return Err(StartRefusal::NoMemory);
         };
-        let Ok(proc) = Proc::new(alloc, engine, start) else {
-            return Err(StartRefusal::NoMemory);
-        };
-        let Ok(places) = first_places(alloc, proc) else {
-            return Err(StartRefusal::NoMemory);
+        let Holdings { places, mail, shed } = match first_holdings(alloc, engine, start) {
+            Ok(holdings) => holdings,
+            Err(NoMemory) => return Err(StartRefusal::NoMemory),
         };
         Ok(Node {
             alloc,
@@ -195,22 +256,34 @@ impl<E: Engine, O: Outside> Node<E, O> {
             row: 0,
             out: 0,
             over: false,
+            streams: 0,
+            closed: Vec::new(alloc),
+            shed,
+            spare: 0,
         })
     }
 
     /// Makes room for the entries of a tick, and of one take and its give, beside what is reserved for those that are
-    /// out. NoMemory leaves all as it was.
+    /// out, and for one closed stream more than each that was drawn. NoMemory leaves all as it was.
     pub fn reserve_turn(&mut self) -> Result<(), NoMemory>
         ensures same { SameTerms self.old self.new }
         ensures kept { KeepsAll self.old.book self.new.book }
         ensures reserved { OnOk result (3 ≤ self.new.spare) }
         ensures spare { self.old.spare ≤ self.new.spare }
+        ensures streams { KeepsStreams
+            (told O.Stream.taken O.Stream.put O.Stream.faults O.Stream.waits O.Stream.empties O.Stream.down) self.new }
         ensures run { IsRun (setting_of E.begin E.at self.new) self.new.book }
     {
+        streams_stand_apart::<E>();
         let Some(places) = self.out.checked_add(4) else {
             return Err(NoMemory);
         };
+        let Some(streams) = self.streams.checked_add(places as u64) else {
+            return Err(NoMemory);
+        };
+        self.closed.reserve(streams as usize - self.closed.len())?;
         self.journal.reserve(places)?;
+        self.spare = SPARE;
         Ok(())
     }
 
@@ -221,29 +294,49 @@ impl<E: Engine, O: Outside> Node<E, O> {
         self.out
     }
 
-    /// Gives up the journal of a run that is over, when no worker has a process.
-    pub fn close(self) -> Journal
+    /// Gives up the journal of a run that is over, when no worker has a process, and the closed streams, in the order
+    /// of closing.
+    pub fn close(self) -> (Journal, Vec<Owned<O::Stream>>)
         requires over { (world_of self).over ≡ true }
         requires home { away_in (world_of self) ≡ 0 }
-        ensures journal { result ≡ self.book }
-        ensures run { IsRun (setting_of E.begin E.at self) result }
+        ensures journal { result.0 ≡ self.book }
+        ensures closed { result.1.items ≡ self.closed_kept }
+        ensures streams { KeepsStreams
+            (told O.Stream.taken O.Stream.put O.Stream.faults O.Stream.waits O.Stream.empties O.Stream.down) self }
+        ensures run { IsRun (setting_of E.begin E.at self) result.0 }
     {
+        sound();
+        touches();
         let Node {
             alloc: _,
-            programs,
+            programs: _,
             live: _,
             idle: _,
             journal,
             places,
             mail,
-            queue,
+            queue: _,
             sends: _,
             time: _,
             row: _,
             out: _,
             over: _,
+            streams: _,
+            closed,
+            shed,
+            spare: _,
         } = self;
-        drop((programs, places, mail, queue));
-        journal
+        let mut left = places;
+        while let Some(place) = left.pop() {
+            let_go(place);
+        }
+        left.destroy_empty();
+        let mut boxes = mail;
+        while let Some(empty) = boxes.pop() {
+            empty.destroy_empty();
+        }
+        boxes.destroy_empty();
+        shed.destroy_empty();
+        (journal, closed)
     }
 }

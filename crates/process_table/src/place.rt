@@ -1,10 +1,13 @@
+ghost use Rattle.std.specs.Prelude.{◌≡◌, ◌<◌, slice_get, slice_set, vec_len, IfSome};
+ghost use Rattle.process_table.specs.Holds.{IsVacant};
+
 use host_calls::Proc;
 use host_port::{Ask, Engine};
 use outside::Outside;
+use std::mem::replace;
 use world_rules::End;
 
 /// What a node has at the place of a process number.
-#[derive(Drop)]
 pub enum Place<E: Engine, O: Outside> {
     /// No process has the number.
     Nobody,
@@ -18,4 +21,28 @@ pub enum Place<E: Engine, O: Outside> {
     Fated(u8, End),
     /// The process has ended.
     Gone,
+}
+
+/// Lets go of a place at which no process is.
+pub(crate) fn let_go<E: Engine, O: Outside>(place: Place<E, O>)
+    requires { IsVacant place }
+{
+    match place {
+        Place::Nobody | Place::Away(_) | Place::Fated(_, _) | Place::Gone => {}
+        _ => unreachable!(),
+    }
+}
+
+/// Writes the place of a number, where no process was.
+pub(crate) fn set_place<E: Engine, O: Outside>(
+    places: &mut Vec<Place<E, O>>,
+    pid: u64,
+    place: Place<E, O>,
+)
+    requires within { pid < vec_len places.old }
+    requires vacant { IfSome (slice_get places.old.items pid) IsVacant }
+    ensures items { places.new.items ≡ slice_set places.old.items pid place }
+    ensures len { vec_len places.new ≡ vec_len places.old }
+{
+    let_go(replace(&mut places[pid as usize], place));
 }

@@ -3,7 +3,6 @@ use host_port::Engine;
 use outside::Outside;
 
 /// What a worker is given.
-#[derive(Drop)]
 pub enum Taken<E: Engine, O: Outside> {
     /// A process, whose turn it is.
     Proc(Proc<E, O>),

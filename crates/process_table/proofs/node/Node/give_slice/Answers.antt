@@ -1,54 +1,73 @@
-use Rattle.std.proofs.Common.{map, refl, arith}
+use Rattle.std.proofs.Common.{refl, arith, map, [], None, ◌∙◌, ap, sym, inl}
 use Rattle.std.specs.Arc.{arc_value}
+use Rattle.world_rules.specs.declared.entry.Side.TheVariants.{Nothing}
 use Rattle.world_rules.specs.declared.halt.Halt.TheVariants.{Slice}
-use Rattle.process_table.proofs.Holding.{mail-same, deadline-same, spare-give}
-use Rattle.process_table.proofs.Giving.{is-out, is-given, give-room, records-give}
-use Rattle.process_table.proofs.Dispatch.{node-slice-beside}
+use Rattle.node_state.specs.Fits.{entry_of}
+use Rattle.host_calls.specs.Shown.{brought_by}
+use Rattle.process_table.proofs.Holding.{mail-same, deadline-same, keeps-at}
+use Rattle.process_table.proofs.Giving.{is-out, give-room, has-room, is-vacant, given-back, records-alone, fitting-of}
+use Rattle.process_table.proofs.GivingEnds.{node-slice}
 use Rattle.process_table.proofs.node.Node.give_slice.Goals as goal
 
-pub add-requires : goal.add-requires
-add-requires g c = give-room c.self.inside.journal _ c.args.proc.start.pid c.args.worker c.self.invariant (rw (← c.self.view_is) at c.requires.fits.allowed.away)
+pub close_all-requires-clause-room : goal.close_all-requires-clause-room
+close_all-requires-clause-room g c =
+    let i = c.self.inside in
+    let has = has-room c.streams_stand_apart.ensures.room_given i.journal _ c.args.worker c.args.proc.start.pid c.args.proc c.args.calls Slice Nothing c.self.invariant
+    (rw (← c.self.view_is) at c.requires.comes.fits) in
+    let room = has.room in
+    let closed = has.closed_room in
+    let len = i.closed.ok.0 in
+    omega (arith, room, closed, len)
 
-pub index_mut-requires : goal.index_mut-requires
-index_mut-requires g c =
-    let within = (is-out c.self.inside.journal _ c.args.proc.start.pid c.args.worker c.self.invariant (rw (← c.self.view_is) at c.requires.fits.allowed.away)).within in
+pub add-requires : goal.add-requires
+add-requires g c = give-room c.self.inside.journal _ c.args.proc.start.pid c.args.worker c.self.invariant (rw (← c.self.view_is) at c.requires.comes.fits.allowed.away)
+
+pub set_place-requires-clause-within : goal.set_place-requires-clause-within
+set_place-requires-clause-within g c =
+    let within = (is-out c.self.inside.journal _ c.args.proc.start.pid c.args.worker c.self.invariant (rw (← c.self.view_is) at c.requires.comes.fits.allowed.away)).within in
     let l = c.self.inside.places.ok.0 in
     omega (arith, within, l)
 
-pub push_reserved-requires : goal.push_reserved-requires
-push_reserved-requires g c = (is-out c.self.inside.journal _ c.args.proc.start.pid c.args.worker c.self.invariant (rw (← c.self.view_is) at c.requires.fits.allowed.away)).ready
+pub set_place-requires-clause-vacant : goal.set_place-requires-clause-vacant
+set_place-requires-clause-vacant g c κs within =
+    is-vacant c.self.inside.journal _ c.args.proc.start.pid c.args.worker c.self.invariant (rw (← c.self.view_is) at c.requires.comes.fits.allowed.away)
 
 pub overflow_sub-self : goal.overflow_sub-self
 overflow_sub-self g c =
-    let one = (is-out c.self.inside.journal _ c.args.proc.start.pid c.args.worker c.self.invariant (rw (← c.self.view_is) at c.requires.fits.allowed.away)).out in
+    let one = (is-out c.self.inside.journal _ c.args.proc.start.pid c.args.worker c.self.invariant (rw (← c.self.view_is) at c.requires.comes.fits.allowed.away)).out in
     omega (arith, one)
+
+pub push_reserved-requires : goal.push_reserved-requires
+push_reserved-requires g c = (is-out c.self.inside.journal _ c.args.proc.start.pid c.args.worker c.self.invariant (rw (← c.self.view_is) at c.requires.comes.fits.allowed.away)).ready
 
 pub invariant_of-self : goal.invariant_of-self
 invariant_of-self g c =
     let i = c.self.inside in
-    node-slice-beside c.sound.ensures.all_told g.E.Engine.begin g.E.Engine.at (map arc_value i.programs.items) i.journal c.add.new.self i.live i.idle _ _ c.args.worker c.args.proc c.args.calls
-    c.args.side c.self.invariant
-    (rw (← c.self.view_is) at c.requires.out) (rw (← c.self.view_is) at c.requires.fits)
+    keeps-at g.E.Engine.begin g.E.Engine.at (map arc_value i.programs.items) i.journal.births c.add.new.self.births i.live i.idle c.add.new.self _ c.add.ensures.births
+    (node-slice c.streams_keep_standing.ensures.given c.sound.ensures.all_told c.a_slice_keeps.ensures i.journal c.add.new.self _ _ c.args.worker c.args.proc c.close_all.new.shed c.args.calls c.self.invariant
+    (rw (← c.self.view_is) at c.requires.out) (fitting-of _ _ _ _ _ (rw (← c.self.view_is) at c.requires.comes))
     (record {
-      placed = refl;
+      placed = c.set_place.ensures.items;
       mails = mail-same i.mail.items c.args.proc.start.pid;
       mail_length = refl;
       deadlines = deadline-same i.queue.deadlines c.push_reserved.new.self.deadlines c.args.proc.start.pid _ c.push_reserved.ensures.deadlines refl;
       behind = c.push_reserved.ensures.ready;
       room = c.push_reserved.ensures.room;
       out = λ e. omega (arith, e);
+      streams_are = refl;
+      streams_few = omega arith;
+      closed = c.close_all.ensures.closed;
+      closed_room = c.close_all.ensures.capacity;
+      shed = c.self.invariant.shed;
+      no_shed = c.close_all.ensures.shed;
+      spare = refl;
+      over = omega arith;
     })
-    (record { sends_are = refl; time_is = refl; row_is = refl; over = refl }) c.add.ensures
+    (record { sends_are = refl; time_is = refl; row_is = refl; over = refl }) c.add.ensures)
 
-pub returns-clause-given : goal.returns-clause-given
-returns-clause-given g c =
-    rw (← c.self.view_is) (records-give c.self.inside.journal c.add.new.self c.args.worker c.args.proc.start.pid c.args.calls c.args.proc.fuel Slice c.args.side c.add.ensures)
-
-pub returns-clause-spare : goal.returns-clause-spare
-returns-clause-spare g c =
+pub returns : goal.returns
+returns g c =
     let i = c.self.inside in
-    let one = (is-out i.journal _ c.args.proc.start.pid c.args.worker c.self.invariant (rw (← c.self.view_is) at c.requires.fits.allowed.away)).out in
-    rw (← c.self.view_is) (spare-give i.journal.entry_room c.add.new.self.entry_room i.out _ i.over c.add.ensures.entry_room one (omega (arith, one)))
-
-pub returns-clause-run : goal.returns-clause-run
-returns-clause-run g c = (invariant_of-self g c).stands.run
+    rw (← c.self.view_is) (given-back g.E.Engine.begin g.E.Engine.at (map arc_value i.programs.items) i.journal c.add.new.self i.live i.idle _ _ c.args.worker c.args.proc.start.pid
+    (brought_by c.args.proc c.args.calls Slice Nothing) Nothing [] c.self.invariant (invariant_of-self g c) refl ∣ inl refl ∣₁
+    (records-alone i.journal c.add.new.self (entry_of c.args.worker c.args.proc.start.pid (brought_by c.args.proc c.args.calls Slice Nothing) Nothing) c.add.ensures))

@@ -1,15 +1,35 @@
 use Rattle.std.proofs.Common.{◌≡◌, get_or, map, refl, arith, ◌∙◌}
 use Rattle.std.specs.Arc.{arc_value}
 use Rattle.process_table.proofs.Ticking.{is-woken, place-read, asleep-place, late-answerable, woken-room, node-wake, node-early}
+use Rattle.process_table.proofs.Owning.{keeps-streams}
+use Rattle.process_table.proofs.Placing.{vacant_set}
 use Rattle.process_table.proofs.node.Node.tick.Goals as goal
 
 pub invariant_of-self : goal.invariant_of-self
 invariant_of-self g c =
     let i = c.self.inside in
-    node-early c.sound.ensures.all_told g.E.Engine.begin g.E.Engine.at (map arc_value i.programs.items) i.journal c.add.new.self i.live i.idle _ _ c.args.worker c.now-now.result c.self.invariant
+    node-early c.sound.ensures.all_told c.streams_keep_standing.ensures.others g.E.Engine.begin g.E.Engine.at (map arc_value i.programs.items) i.journal c.add.new.self i.live i.idle _ _ c.args.worker
+    c.now-now.result c.self.invariant
     (rw (← c.self.view_is) at c.requires.going) (rw (← c.self.view_is) at c.requires.spare) (rw (← c.self.view_is) at c.requires.timed)
     (rw c.max-time.ensures at c.in_default.ensures.least)
-    refl refl c.due.ensures.ready c.in_default.ensures.deadlines c.due.ensures.room refl c.max-time.ensures c.longer_row-self-inside.ensures refl refl c.add.ensures
+    refl c.due.ensures.ready c.in_default.ensures.deadlines c.longer_row-self-inside.ensures
+    (record {
+      mail = refl;
+      room = c.due.ensures.room;
+      sends = refl;
+      time = c.max-time.ensures;
+      over = refl;
+      out = refl;
+      streams = refl;
+      closed = refl;
+      closed_room = refl;
+      shed = refl;
+      spare = let one = rw (← c.self.view_is) at c.requires.spare in omega (arith, one);
+    })
+    c.add.ensures
+
+pub returns-in_default-clause-streams : goal.returns-in_default-clause-streams
+returns-in_default-clause-streams g c = keeps-streams _ c.add.new.self _ _ _ _ (invariant_of-self g c)
 
 pub returns-in_default-clause-run : goal.returns-in_default-clause-run
 returns-in_default-clause-run g c = (invariant_of-self g c).stands.run
@@ -36,14 +56,6 @@ answer-requires g c =
     rw c.late_reply.ensures (late-answerable c.self.inside.journal _ c.in-Some.pid c.max-time.result c.in-Asleep.proc c.in-Asleep.ask c.self.invariant woken
     (place-read _ c.in-Some.pid c.max-time.result _ woken here))
 
-pub index_mut-requires-2 : goal.index_mut-requires-2
-index_mut-requires-2 g c =
-    let woken = is-woken c.sound.ensures.all_told c.self.inside.journal _ c.in-Some.pid c.max-time.result c.self.invariant c.in-Some.ensures.least.due in
-    let one = woken.one in
-    let within = woken.within in
-    let l = c.self.inside.places.ok.0 in
-    omega (arith, one, within, l)
-
 pub push_reserved-requires : goal.push_reserved-requires
 push_reserved-requires g c =
     let woken = is-woken c.sound.ensures.all_told c.self.inside.journal _ c.in-Some.pid c.max-time.result c.self.invariant c.in-Some.ensures.least.due in
@@ -56,13 +68,44 @@ invariant_of-self-2 g c =
     let p = c.in-Asleep.proc in
     let read : c.replace-place.result ≡ get_or i.places.items c.in-Some.pid c.replace-place.result = rw c.replace-place.ensures.value c.index_mut.ensures.value in
     let here = rw c.in-Asleep.is at read in
-    node-wake c.sound.ensures.all_told g.E.Engine.begin g.E.Engine.at (map arc_value i.programs.items) i.journal c.add.new.self i.live i.idle _ _ c.args.worker c.now-now.result c.in-Some.pid p
-    (record { engine = c.answer.new.self; start = p.start; scratch = p.scratch; traffic = p.traffic; fuel = p.fuel; of = p.of }) c.in-Asleep.ask c.replace-place.new.dest
+    node-wake c.sound.ensures.all_told c.streams_keep_standing.ensures.others g.E.Engine.begin g.E.Engine.at (map arc_value i.programs.items) i.journal c.add.new.self i.live i.idle _ _ c.args.worker
+    c.now-now.result c.in-Some.pid p (record p { engine = c.answer.new.self }) c.in-Asleep.ask c.replace-place.new.dest
     c.self.invariant
     (rw (← c.self.view_is) at c.requires.going) (rw (← c.self.view_is) at c.requires.spare) (rw c.max-time.ensures at c.in-Some.ensures.least.due) here
-    (record { running = c.answer.ensures.phase; stands = rw c.late_reply.ensures at c.answer.ensures.stands }) refl refl refl
-    (rw c.due.ensures.ready at c.push_reserved.ensures.ready) (c.push_reserved.ensures.deadlines ∙ c.in-Some.ensures.deadlines) (c.push_reserved.ensures.room ∙ c.due.ensures.room)
-    refl c.max-time.ensures refl refl refl c.add.ensures
+    (record { running = c.answer.ensures.phase; stands = rw c.late_reply.ensures at c.answer.ensures.stands }) refl refl refl c.set_place.ensures.items
+    (rw c.due.ensures.ready at c.push_reserved.ensures.ready) (c.push_reserved.ensures.deadlines ∙ c.in-Some.ensures.deadlines) refl
+    (record {
+      mail = refl;
+      room = c.push_reserved.ensures.room ∙ c.due.ensures.room;
+      sends = refl;
+      time = c.max-time.ensures;
+      over = refl;
+      out = refl;
+      streams = refl;
+      closed = refl;
+      closed_room = refl;
+      shed = refl;
+      spare = let one = rw (← c.self.view_is) at c.requires.spare in omega (arith, one);
+    })
+    c.add.ensures
+
+pub returns-clause-streams : goal.returns-clause-streams
+returns-clause-streams g c = keeps-streams _ c.add.new.self _ _ _ _ (invariant_of-self-2 g c)
 
 pub returns-clause-run : goal.returns-clause-run
 returns-clause-run g c = (invariant_of-self-2 g c).stands.run
+
+pub set_place-requires-clause-within : goal.set_place-requires-clause-within
+set_place-requires-clause-within g c κs within =
+    let woken = is-woken c.sound.ensures.all_told c.self.inside.journal _ c.in-Some.pid c.max-time.result c.self.invariant c.in-Some.ensures.least.due in
+    let one = woken.one in
+    let long = woken.within in
+    let l = c.self.inside.places.ok.0 in
+    omega (arith, one, long, l)
+
+pub set_place-requires-clause-vacant : goal.set_place-requires-clause-vacant
+set_place-requires-clause-vacant g c κs within =
+    let woken = is-woken c.sound.ensures.all_told c.self.inside.journal _ c.in-Some.pid c.max-time.result c.self.invariant c.in-Some.ensures.least.due in
+    let one = woken.one in
+    let long = woken.within in
+    vacant_set c.self.inside.places.items c.in-Some.pid c.replace-place.new.dest (omega (arith, one, long)) c.replace-place.ensures.after

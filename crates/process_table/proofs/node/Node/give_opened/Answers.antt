@@ -1,0 +1,112 @@
+use Rattle.std.proofs.Common.{refl, arith, map, [], None, ◌∙◌, ap, sym, inl, Err, Some, ℕ, ◌≡◌, length}
+use Rattle.std.proofs.lemmas.List.{length-map}
+use Rattle.std.specs.Arc.{arc_value}
+use Rattle.world_rules.specs.declared.entry.Side.TheVariants.{Opened}
+use Rattle.world_rules.specs.Told.{told}
+use Rattle.world_rules.specs.Answers.{written_reply}
+use Rattle.node_state.specs.Fits.{entry_of}
+use Rattle.host_calls.specs.Shown.{brought_by}
+use Rattle.process_table.proofs.Holding.{mail-same, deadline-same, keeps-at}
+use Rattle.process_table.proofs.Giving.{is-out, give-room, has-room, is-vacant, given-back, records-alone, fitting-of}
+use Rattle.process_table.proofs.GivingNetwork.{node-opened, table-new, cast-small, opened-answerable}
+use Rattle.process_table.proofs.node.Node.give_opened.Goals as goal
+
+pub close_all-requires-clause-room : goal.close_all-requires-clause-room
+close_all-requires-clause-room g c =
+    let i = c.self.inside in
+    let has = has-room c.streams_stand_apart.ensures.room_given i.journal _ c.args.worker c.args.proc.start.pid c.args.proc c.args.calls c.args.halt Opened c.self.invariant
+    (rw (← c.self.view_is) at c.requires.comes.fits) in
+    let room = has.room in
+    let closed = has.closed_room in
+    let len = i.closed.ok.0 in
+    omega (arith, room, closed, len)
+
+pub add-requires : goal.add-requires
+add-requires g c = give-room c.self.inside.journal _ c.args.proc.start.pid c.args.worker c.self.invariant (rw (← c.self.view_is) at c.requires.comes.fits.allowed.away)
+
+pub set_place-requires-clause-within : goal.set_place-requires-clause-within
+set_place-requires-clause-within g c =
+    let within = (is-out c.self.inside.journal _ c.args.proc.start.pid c.args.worker c.self.invariant (rw (← c.self.view_is) at c.requires.comes.fits.allowed.away)).within in
+    let l = c.self.inside.places.ok.0 in
+    omega (arith, within, l)
+
+pub set_place-requires-clause-vacant : goal.set_place-requires-clause-vacant
+set_place-requires-clause-vacant g c κs within =
+    is-vacant c.self.inside.journal _ c.args.proc.start.pid c.args.worker c.self.invariant (rw (← c.self.view_is) at c.requires.comes.fits.allowed.away)
+
+pub overflow_sub-self : goal.overflow_sub-self
+overflow_sub-self g c =
+    let one = (is-out c.self.inside.journal _ c.args.proc.start.pid c.args.worker c.self.invariant (rw (← c.self.view_is) at c.requires.comes.fits.allowed.away)).out in
+    omega (arith, one)
+
+pub push_reserved-requires : goal.push_reserved-requires
+push_reserved-requires g c = (is-out c.self.inside.journal _ c.args.proc.start.pid c.args.worker c.self.invariant (rw (← c.self.view_is) at c.requires.comes.fits.allowed.away)).ready
+
+pub unreachable-requires : goal.unreachable-requires
+unreachable-requires g c =
+    let opened = c.outside_replies_fit.ensures.opened _ _ _ c.args.worker c.args.proc.start.pid (brought_by c.args.proc c.args.calls c.args.halt Opened) c.requires.comes.fits refl in
+    let owed = opened.1 in
+    let none = c.in_default.is in
+    let e = sym none ∙ owed in
+    cc
+
+pub overflow_cast-id_of : goal.overflow_cast-id_of
+overflow_cast-id_of g c =
+    let opened = c.outside_replies_fit.ensures.opened _ _ _ c.args.worker c.args.proc.start.pid (brought_by c.args.proc c.args.calls c.args.halt Opened) c.requires.comes.fits refl in
+    let small = cast-small c.args.proc.owed opened.0 c.in-Some.ask c.id_of.result c.pages-pages.result _ opened.1 c.in-Some.is opened.2 c.id_of.ensures c.pages-pages.ensures.whole c.pages-pages.ensures.few in
+    omega (arith, small)
+
+pub answer-requires : goal.answer-requires
+answer-requires g c =
+    let opened = c.outside_replies_fit.ensures.opened _ _ _ c.args.worker c.args.proc.start.pid (brought_by c.args.proc c.args.calls c.args.halt Opened) c.requires.comes.fits refl in
+    let room = c.self.invariant.closed_room in
+    let one = (is-out c.self.inside.journal _ c.args.proc.start.pid c.args.worker c.self.invariant (rw (← c.self.view_is) at c.requires.comes.fits.allowed.away)).out in
+    let small = c.self.inside.closed.small in
+    opened-answerable _ _ c.args.proc.owed opened.0 c.in-Some.ask c.self.inside.streams c.written_reply.result opened.1 c.in-Some.is opened.3 (omega (arith, room, one, small))
+    (c.written_reply.ensures ∙ ap (λ (n : ℕ). written_reply 0 n c.self.inside.streams) c.id_of.ensures)
+
+pub put-requires-clause-new : goal.put-requires-clause-new
+put-requires-clause-new g c κs within = λ has.
+    table-new _ _ _ c.self.inside.streams c.self.invariant.stands.mirrors.streams
+    (c.streams_stand_apart.ensures.undrawn _ c.self.inside.journal _ c.args.worker c.args.proc.start.pid (brought_by c.args.proc c.args.calls c.args.halt Opened) c.self.invariant.stands (rw (← c.self.view_is) at c.requires.comes.fits)) (rw c.of.ensures at has)
+
+pub unreachable-requires-in-Err : goal.unreachable-requires-in-Err
+unreachable-requires-in-Err g c =
+    let place = c.streams_stand_apart.ensures.place _ c.self.inside.journal _ c.args.worker c.args.proc.start.pid (brought_by c.args.proc c.args.calls c.args.halt Opened) c.self.invariant.stands (rw (← c.self.view_is) at c.requires.comes.fits) refl in
+    let count = length-map c.args.proc.table (λ h. h.number) in
+    let full = c.put.ensures.full.0 (c.in-Err.is ∙ ap (λ h. Err h) c.in-Err.ensures.back) in
+    omega (arith, place, count, full)
+
+pub invariant_of-self : goal.invariant_of-self
+invariant_of-self g c =
+    let i = c.self.inside in
+    keeps-at g.E.Engine.begin g.E.Engine.at (map arc_value i.programs.items) i.journal.births c.add.new.self.births i.live i.idle c.add.new.self _ c.add.ensures.births
+    (node-opened c.streams_keep_standing.ensures.given c.sound.ensures.all_told c.an_opening_keeps.ensures i.journal c.add.new.self _ _ c.args.worker c.args.proc c.close_all.new.shed c.put.new.self c.answer.new.self c.args.calls c.args.halt
+    c.in-Some.ask c.args.stream c.self.invariant (rw (← c.self.view_is) at c.requires.out) (fitting-of _ _ _ _ _ (rw (← c.self.view_is) at c.requires.comes))
+    c.in-Some.is (rw c.of.ensures at c.in-Ok.ensures.ok)
+    (record { running = c.answer.ensures.phase; stands = rw (c.written_reply.ensures ∙ ap (λ (n : ℕ). written_reply 0 n c.self.inside.streams) c.id_of.ensures) at c.answer.ensures.stands })
+    (record {
+      placed = c.set_place.ensures.items;
+      mails = mail-same i.mail.items c.args.proc.start.pid;
+      mail_length = refl;
+      deadlines = deadline-same i.queue.deadlines c.push_reserved.new.self.deadlines c.args.proc.start.pid _ c.push_reserved.ensures.deadlines refl;
+      behind = c.push_reserved.ensures.ready;
+      room = c.push_reserved.ensures.room;
+      out = λ e. omega (arith, e);
+      streams_are = refl;
+      streams_few = omega arith;
+      closed = c.close_all.ensures.closed;
+      closed_room = c.close_all.ensures.capacity;
+      shed = c.self.invariant.shed;
+      no_shed = c.close_all.ensures.shed;
+      spare = refl;
+      over = omega arith;
+    })
+    (record { sends_are = refl; time_is = refl; row_is = refl; over = refl }) c.add.ensures)
+
+pub returns : goal.returns
+returns g c =
+    let i = c.self.inside in
+    rw (← c.self.view_is) (given-back g.E.Engine.begin g.E.Engine.at (map arc_value i.programs.items) i.journal c.add.new.self i.live i.idle _ _ c.args.worker c.args.proc.start.pid
+    (brought_by c.args.proc c.args.calls c.args.halt Opened) Opened [] c.self.invariant (invariant_of-self g c) refl ∣ inl refl ∣₁
+    (records-alone i.journal c.add.new.self (entry_of c.args.worker c.args.proc.start.pid (brought_by c.args.proc c.args.calls c.args.halt Opened) Opened) c.add.ensures))
