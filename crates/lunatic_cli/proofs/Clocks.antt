@@ -8,9 +8,7 @@ use Rattle.outside.specs.Makes.{GoesNotBack}
 use Rattle.world_rules.specs.declared.entry.Entry.{Entry}
 use Rattle.world_rules.specs.declared.entry.Side.{Side}
 use Rattle.world_rules.specs.declared.entry.Side.TheVariants as SideIs
-use Rattle.world_rules.specs.declared.halt.Halt.{Halt}
-use Rattle.world_rules.specs.declared.halt.Halt.TheVariants as HaltIs
-use Rattle.host_calls.specs.Brings.{IsSideOf}
+use Rattle.host_calls.specs.Outsides.{IsTimeOf}
 use Rattle.lunatic_cli.specs.Times.{times_of, time_of, time_beside, AreBetween}
 
 pub not-back-refl : (clock : Option ℕ) → GoesNotBack clock clock
@@ -49,33 +47,27 @@ between-both (Some from) (Some mid) (Some to) xs ys one two first second =
     All-append (λ time. (from ≤ time) × (time ≤ to)) xs ys
     (all-within from from mid to xs (omega arith) two first) (all-within from mid to to ys one (omega arith) second)
 
-is-told : (clock : Option ℕ) (halt : Halt) (side : Side) (now time : ℕ) → clock ≡ Some time → IsSideOf clock halt side → (SideIs.Clock now ≡ side) ⊎ (SideIs.Clock now ≡ SideIs.NoMemory) → now ≡ time
-is-told clock halt side now time told is (inr e) = absurd (cc)
-is-told clock halt side now time told is (inl e) = by halt (rw (told, ← e) at is)
-  where
-    by : (h : Halt) → IsSideOf (Some time) h (SideIs.Clock now) → now ≡ time
-    by HaltIs.Slice i = absurd (let x = i in cc)
-    by (HaltIs.Asks request) i = i.1
-    by HaltIs.Done i = absurd (let x = i in cc)
-    by (HaltIs.Trap trap) i = absurd (let x = i in cc)
-    by (HaltIs.Spent spent) i = absurd (let x = i in cc)
-    by (HaltIs.Host fault request) i = absurd (let x = i in cc)
-    by HaltIs.NoMemory i = absurd (let x = i in cc)
-    by HaltIs.Again i = absurd (let x = i in cc)
+-- the time that is recorded with a Give is the turn's
 
--- what was recorded with a Give lies between, where the clock stayed from the process's taking on
-pub between-given : (before clock : Option ℕ) (halt : Halt) (side recorded : Side) → GoesNotBack before clock → IsSideOf clock halt side → ∥ (recorded ≡ side) ⊎ (recorded ≡ SideIs.NoMemory) ∥₁
-    → AreBetween before clock (time_beside recorded)
-between-given before clock halt side SideIs.Nothing later is from = between-none before clock
-between-given before clock halt side SideIs.NoMemory later is from = between-none before clock
-between-given before clock halt side SideIs.Pending later is from = between-none before clock
-between-given before clock halt side (SideIs.Answer reply) later is from = between-none before clock
-between-given before clock halt side SideIs.Opened later is from = between-none before clock
-between-given None clock halt side (SideIs.Clock now) later is from = tt
-between-given (Some early) None halt side (SideIs.Clock now) later is from = tt
-between-given (Some early) (Some time) halt side (SideIs.Clock now) later is from =
-    let same : now ≡ time = ∥∥₁_elim from (ℕ_set now time) (is-told (Some time) halt side now time refl is) in
-    All-cons (λ at. (early ≤ at) × (at ≤ time)) now [] (omega arith, omega arith) (All-nil (λ at. (early ≤ at) × (at ≤ time)))
+is-told : (clock : Option ℕ) (side : Side) (now time : ℕ) → clock ≡ Some time → IsTimeOf clock side →
+    (SideIs.Clock now ≡ side) ⊎ ((side ≡ SideIs.Nothing) × (SideIs.Clock now ≡ SideIs.NoMemory)) → now ≡ time
+is-told clock side now time told is (inr e) = absurd (let x = e.1 in cc)
+is-told clock side now time told is (inl e) = rw (told, ← e) at is
+
+-- what was recorded with a Give lies between, where the clock went on from the process's taking
+pub between-given : (before clock after : Option ℕ) (side recorded : Side) → GoesNotBack before clock → GoesNotBack clock after → IsTimeOf clock side →
+    ∥ (recorded ≡ side) ⊎ ((side ≡ SideIs.Nothing) × (recorded ≡ SideIs.NoMemory)) ∥₁ → AreBetween before after (time_beside recorded)
+between-given before clock after side SideIs.Nothing later goes is from = between-none before after
+between-given before clock after side SideIs.NoMemory later goes is from = between-none before after
+between-given before clock after side SideIs.Pending later goes is from = between-none before after
+between-given before clock after side (SideIs.Answer reply) later goes is from = between-none before after
+between-given before clock after side SideIs.Opened later goes is from = between-none before after
+between-given None clock after side (SideIs.Clock now) later goes is from = tt
+between-given (Some early) None after side (SideIs.Clock now) later goes is from = absurd later
+between-given (Some early) (Some time) None side (SideIs.Clock now) later goes is from = absurd goes
+between-given (Some early) (Some time) (Some late) side (SideIs.Clock now) later goes is from =
+    let same : now ≡ time = ∥∥₁_elim from (ℕ_set now time) (is-told (Some time) side now time refl is) in
+    All-cons (λ at. (early ≤ at) × (at ≤ late)) now [] (omega (arith, same, later), omega (arith, same, goes)) (All-nil (λ at. (early ≤ at) × (at ≤ late)))
 
 -- an entry that records no time, or none
 pub times-ended : (before kept after more : List Entry) (entry : Entry) → kept ≡ before → after ≡ kept ++ more → (more ≡ []) ⊎ (more ≡ entry ∷ []) → time_of entry ≡ []

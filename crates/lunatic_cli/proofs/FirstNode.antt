@@ -12,7 +12,7 @@ use Rattle.lunatic_cli.specs.Options.{first_start}
 use Rattle.lunatic_cli.specs.Runs.{valid_setting, IsFirstNode}
 
 -- what the node's run is over
-pub setting-valid : (options : Options) (valid : ValidModule) (node : Seen ValidModule) → IsFirstNode options valid node →
+pub setting-valid : {S : Type 0} (options : Options) (valid : ValidModule) (node : Seen ValidModule S) → IsFirstNode options valid node →
     setting_of (λ v start. begins.begin v.parts start) (λ v start calls fuel. runs.at v.parts start calls fuel) node ≡ valid_setting options valid
 setting-valid options valid node first =
     let start : start_in node.book.births ≡ first_start options = ap start_in first.births in

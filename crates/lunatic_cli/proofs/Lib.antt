@@ -21,3 +21,5 @@ pub mod RunFile
 pub mod Completions
 pub mod Asked
 pub mod Told
+pub mod Causing
+pub mod Standing

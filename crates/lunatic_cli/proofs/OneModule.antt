@@ -1,6 +1,8 @@
 -- The run of an accepted module is that of its parts: the map of its code plays no role.
 use Rattle.std.proofs.Common.{◌≡◌, ℕ, zero, suc, List, [], ◌∷◌, Option, Some, None, false, slice_get, option_map, refl, ap, subst}
 use Rattle.std.specs.Option.{option_map_or, is_none}
+use Rattle.resource_table.specs.Handles.{Handle}
+use Rattle.resource_table.specs.Steps.{Told}
 use Rattle.host_port.specs.declared.start.Start.{Start}
 use Rattle.host_port.specs.declared.request.Request.{Request}
 use Rattle.world_rules.specs.declared.entry.Entry.{Entry}
@@ -13,14 +15,17 @@ use Rattle.world_rules.specs.Rules.{next}
 use Rattle.world_rules.specs.Births.{Terms}
 use Rattle.world_rules.specs.Told.{told}
 use Rattle.world_rules.specs.Legal.{Legal}
-use Rattle.world_rules.specs.Lives.{terms_of, OwnTurnIsRun, TurnIsRun, AllTurnsAreRuns, Lives, IsMemoryOf, EndsAreMemories, IsRun}
+use Rattle.world_rules.specs.Lives.{Setting, terms_of, OwnTurnIsRun, TurnIsRun, AllTurnsAreRuns, Lives, IsMemoryOf, EndsAreMemories, IsRun}
 use Rattle.wasm_form.specs.declared.parts.Parts.{Parts}
 use Rattle.module_validator.specs.ValidModule.{ValidModule}
 use Rattle.tree_machine.specs.Begin as begins
+use Rattle.tree_machine.specs.Run as runs
+use Rattle.process_table.specs.Seen.{Seen, setting_of}
 use Rattle.lunatic_cli.specs.declared.options.Options.{Options}
 use Rattle.lunatic_cli.specs.Headline.{Tellings, OneJournal}
 use Rattle.lunatic_cli.specs.Options.{first_start}
-use Rattle.lunatic_cli.specs.Runs.{run_setting, valid_setting}
+use Rattle.lunatic_cli.specs.Runs.{run_setting, valid_setting, IsFirstNode}
+use Rattle.lunatic_cli.proofs.FirstNode.{setting-valid}
 
 -- the module is the one program, under its number
 found : (valid v : ValidModule) (k : ℕ) → slice_get (valid ∷ []) k ≡ Some v → slice_get (valid.parts ∷ []) k ≡ Some v.parts
@@ -89,8 +94,9 @@ module _ (options : Options) (valid : ValidModule) where
   }
 
   -- the headline's journal
-  pub journal-of-parts : (outsides : Tellings) (book : Book) → OneJournal (valid_setting options valid) outsides book → OneJournal (run_setting options valid.parts) outsides book
-  journal-of-parts outsides book one = record {
+  pub journal-of-parts : {S : Type 0} (outsides : Tellings) (tells : Told S) (book : Book) (closed : List (Handle S)) →
+      OneJournal (valid_setting options valid) outsides tells book closed → OneJournal (run_setting options valid.parts) outsides tells book closed
+  journal-of-parts outsides tells book closed one = record {
     begins = one.begins;
     journal_is_run = run-of-parts book one.journal_is_run;
     is_over = one.is_over;
@@ -98,4 +104,16 @@ module _ (options : Options) (valid : ValidModule) where
     rounds = one.rounds;
     times = one.times;
     rested = one.rested;
+    failed = one.failed;
+    waited = one.waited;
+    handles = one.handles;
   }
+
+-- and that of a run which begins with the first node
+pub journal-of-first : {S : Type 0} (options : Options) (valid : ValidModule) (node : Seen ValidModule S) (outsides : Tellings) (tells : Told S) (book : Book) (closed : List (Handle S)) →
+    IsFirstNode options valid node →
+    OneJournal (setting_of (λ v start. begins.begin v.parts start) (λ v start calls fuel. runs.at v.parts start calls fuel) node) outsides tells book closed →
+    OneJournal (run_setting options valid.parts) outsides tells book closed
+journal-of-first options valid node outsides tells book closed first one =
+    journal-of-parts options valid outsides tells book closed
+    (subst (λ (s : Setting ValidModule). OneJournal s outsides tells book closed) (setting-valid options valid node first) one)

@@ -3,6 +3,7 @@ use Rattle.std.proofs.Common.{◌≡◌, ◌<◌, ◌≤◌, ◌+◌, ◌-◌, �
 use Rattle.std.proofs.lemmas.Bool.{cases_lt}
 use Rattle.std.proofs.lemmas.List.Sums.{sum_by-cons}
 use Rattle.outside.specs.Makes.{GoesNotBack}
+use Rattle.lunatic_cli.specs.Causes.{HaveGrown}
 use Rattle.lunatic_cli.specs.Quiet.{HasRested, HaveRested}
 use Rattle.lunatic_cli.specs.Times.{AreBetween, IsWithin, AllAreWithin, NoneFalls, NoneGoesBack}
 use Rattle.lunatic_cli.proofs.Clocks.{not-back-refl}
@@ -63,3 +64,13 @@ have-rested-first rests (x ∷ xs) before after quiet some is rested =
           omega (arith, first, old, new))
       | inr full ↦ inl (any-first (λ n. 2 ^ 64 - 1 ≤ n) (rests after) (map rests xs) full)
     ]
+
+-- the counts of all, where the first has grown
+pub have-grown-first : {X : Type 0} (count : X → ℕ) (items : List X) (before after : X) (by : ℕ) → 0 < length items → before ≡ get_or items 0 before → count before + by ≤ count after →
+    HaveGrown (map count items) (map count (slice_set items 0 after)) by
+have-grown-first count [] before after by some is grown = absurd (omega arith)
+have-grown-first count (x ∷ xs) before after by some is grown =
+    let here : count x + by ≤ count after = subst (λ y. count y + by ≤ count after) is grown in
+    let old : sum (map count (x ∷ xs)) ≡ count x + sum (map count xs) = sum_by-cons (λ n. n) (count x) (map count xs) in
+    let new : sum (map count (after ∷ xs)) ≡ count after + sum (map count xs) = sum_by-cons (λ n. n) (count after) (map count xs) in
+    omega (arith, here, old, new)

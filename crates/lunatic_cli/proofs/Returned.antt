@@ -221,6 +221,7 @@ begun-of-returns options m returns =
     (at_point m (first_start options) [] returns.fuel end.0 end.1).begins
 
 -- a start of such a module that ended early wanted memory
-pub unstarted-memory : (options : Options) (m : Parts) (sink : Written) (finish : Finish) → Returns options m → RefusesStart options m sink finish ⊎ RunsNothing sink finish → finish.status ≡ 8
+pub unstarted-memory : {S : Type 0} (options : Options) (m : Parts) (sink : Written) (finish : Finish S) → Returns options m →
+    RefusesStart options m sink finish ⊎ RunsNothing sink finish → finish.status ≡ 8
 unstarted-memory options m sink finish returns (inl refuses) = let e = sym (begun-of-returns options m returns) ∙ refuses.refused in absurd (cc)
 unstarted-memory options m sink finish returns (inr nothing) = nothing.status_is

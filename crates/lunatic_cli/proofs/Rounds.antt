@@ -1,12 +1,11 @@
 -- A round of one worker, from rest to rest.
-use Rattle.std.proofs.Common.{◌≡◌, ◌≢◌, ◌<◌, ◌≤◌, ◌||◌, ◌&&◌, not, ℕ, ◌+◌, List, [], ◌∷◌, ◌++◌, All, Some, None, Option, Bool, true, false, cond, nat_eq, nat_lt, length, max, slice_get, refl, sym}
-use Rattle.std.proofs.Common.{◌∙◌, ap, subst, arith, append_assoc, append-nil, ◌⊎◌, inl, inr}
+use Rattle.std.proofs.Common.{◌≡◌, ◌≢◌, ◌<◌, ◌≤◌, ◌||◌, ◌&&◌, not, ℕ, ◌+◌, List, [], ◌∷◌, ◌++◌, All, Some, None, Bool, true, false, cond, nat_eq, nat_lt, length, max, slice_get, refl, sym}
+use Rattle.std.proofs.Common.{◌∙◌, ap, subst, arith, append_assoc, ◌⊎◌, inl, inr}
 use Rattle.std.specs.List.{list_any}
 use Rattle.std.proofs.lemmas.Bool.Decides.{eqb_tells}
 use Rattle.std.proofs.lemmas.List.Elements.{All-push}
 use Rattle.std.proofs.lemmas.List.Folds.{list_any-append}
 use Rattle.host_port.specs.declared.call.Call.{Call}
-use Rattle.host_port.specs.declared.reply.Reply.{Reply}
 use Rattle.host_port.specs.declared.request.Request.{Request}
 use Rattle.world_rules.specs.declared.entry.Entry.{Entry}
 use Rattle.world_rules.specs.declared.entry.Entry.TheVariants.{Take, Give, Tick, Stall, Idle, Starve}
@@ -26,13 +25,12 @@ use Rattle.world_rules.specs.Rules.{queued, taken, given, next, with_row, row_wi
 use Rattle.world_rules.specs.Legal.{AllKeepRounds, TakesWhereReady, can_take}
 use Rattle.world_rules.specs.Lives.{Setting}
 use Rattle.node_state.specs.Held.{away_count}
-use Rattle.node_state.specs.Fits.{give_of}
 use Rattle.node_laws.proofs.ReadyList.{true_is_not_false, nat_eq_other}
-use Rattle.node_laws.proofs.Goes.{Alters, alters-with, count-alone}
+use Rattle.node_laws.proofs.Goes.{count-alone}
 use Rattle.process_table.specs.Takes.{IsTimed}
-use Rattle.lunatic_cli.specs.Statuses.{is_stall, is_idle, is_starve, AsksSomething, IsTurnOfFirst, EndsFirst, NoneEndsAll, EndsByLast}
+use Rattle.lunatic_cli.specs.Statuses.{is_stall, is_idle, is_starve, AsksSomething, IsTurnOfFirst, EndsFirst, NoneEndsAll}
 use Rattle.lunatic_cli.specs.Resting.{IsAtHome, IsResting, IsAwake}
-use Rattle.lunatic_cli.proofs.GivenBack.{IsBack, HasAsked, IsEndedBy, GoesBy}
+use Rattle.lunatic_cli.proofs.GivenBack.{Becomes, IsEndedBy, GoesBy}
 
 -- ENTRIES
 
@@ -130,6 +128,7 @@ pub record IsTickedTo (w u : World) (early : Bool) : Type 0 where
   pub over : u.over ≡ w.over
   pub ready : u.ready ≡ cond early [] (1 ∷ [])
   pub row : u.row ≡ row_with early w.row
+  pub owed : (u.process 1).owed ≡ cond early (w.process 1).owed None
 
 -- process 1 with the answer of a wait that is over
 abbrev woken : World → Request → World
@@ -161,6 +160,7 @@ ticked-by true births w now request drawn waits none due =
       over = refl;
       ready = rw (none, drawn) refl;
       row = refl;
+      owed = refl;
     } in
     subst (λ (x : World). IsTickedTo w x false) (sym is) at
 ticked-by false births w now request drawn waits none due =
@@ -178,6 +178,7 @@ ticked-by false births w now request drawn waits none due =
       over = refl;
       ready = rw (none, drawn, unready) refl;
       row = refl;
+      owed = refl;
     } in
     subst (λ (x : World). IsTickedTo w x true) (sym is) at
 
@@ -232,7 +233,7 @@ awake-untimed setting births w es rest = record {
   at_home = rest.at_home;
   rounds = λ more _ h. rest.rounds more h;
   workers = rest.workers;
-  asks = λ going long. let b = rest.busy going in absurd (omega (arith, b, long));
+  asks = rest.asks;
   none_ended = rest.none_ended;
   ended = rest.ended;
 }
@@ -248,7 +249,7 @@ rest-none setting births w es awake none busy = record {
   at_home = awake.at_home;
   rounds = λ more h. awake.rounds more (takes-none w.over w.ready more none) h;
   workers = awake.workers;
-  busy = λ _. busy;
+  asks = λ _ long. absurd (omega (arith, busy, long));
   none_ended = awake.none_ended;
   ended = awake.ended;
 }
@@ -259,7 +260,7 @@ rest-over-now setting births w es awake over = record {
   at_home = awake.at_home;
   rounds = λ more h. awake.rounds more (subst (λ (b : Bool). TakesWhereReady (not b && nat_lt 0 (length w.ready)) 0 more) (sym over) tt) h;
   workers = awake.workers;
-  busy = λ going. true_is_not_false (sym over ∙ going);
+  asks = λ going _. true_is_not_false (sym over ∙ going);
   none_ended = awake.none_ended;
   ended = awake.ended;
 }
@@ -296,11 +297,10 @@ pub out-taken : {P : Type 0} (setting : Setting P) (births : List Birth) (w : Wo
     → IsOut setting (next births w (Take 0 1))
 out-taken setting births w pid home going front =
     let is = front-one (is_ready (w.process 1).stage) w.ready pid home.ready front in
-    let a = alters-with w 1 (record (w.process 1) { stage = Out 0 }) in
     record {
       drawn = home.drawn;
       start = home.start;
-      others = λ q other. ap (λ (x : Process). x.stage) (a.others q other) ∙ home.others q other;
+      others = λ q other. rw (nat_eq_other q 1 other) (home.others q other);
       out = refl;
       ready = ready-taken w (taken w 0 1) (home.ready ∙ ap (λ (b : Bool). cond b (1 ∷ []) []) is.1) home.drawn refl;
       going = going;
@@ -319,7 +319,7 @@ takes-front false es = tt
 -- the entries with a Take and its Give of worker 0
 module _ {P : Type 0} (setting : Setting P) (births : List Birth) (w u : World) (es fs gs : List Entry) (calls : List Call) (fuel : ℕ) (halt : Halt) (side : Side)
     (awake : IsAwake setting births w es) (begun : w.over ≡ false) (is_taken : u ≡ next births w (Take 0 1)) (out : IsOut setting u)
-    (took : fs ≡ es ++ Take 0 1 ∷ []) (gave : gs ≡ fs ++ Give 0 1 calls fuel halt side ∷ []) (some_idle : 0 < setting.idle) (answers : is_pending side ≡ false) where
+    (took : fs ≡ es ++ Take 0 1 ∷ []) (gave : gs ≡ fs ++ Give 0 1 calls fuel halt side ∷ []) (some_idle : 0 < setting.idle) where
   give : Entry
   give = Give 0 1 calls fuel halt side
 
@@ -337,14 +337,23 @@ module _ {P : Type 0} (setting : Setting P) (births : List Birth) (w u : World) 
   none-given : NoneEndsAll gs
   none-given = rw gave (none-more fs (Give 0 1 calls fuel halt side) refl refl refl none-taken)
 
-  row-given : row_with (is_pending_give (u.process 1).stage side) u.row ≡ 0
-  row-given = ap (λ (s : Stage). row_with (is_pending_give s side) u.row) out.out ∙ ap (λ (b : Bool). row_with b u.row) answers
+  abbrev give_is : Given
+  give_is = record { worker = 0; pid = 1; calls = calls; fuel = fuel; halt = halt; side = side }
+
+  row-given : row_with (is_pending_give (u.process 1).stage side) u.row ≡ row_with (is_pending side) u.row
+  row-given = ap (λ (s : Stage). row_with (is_pending_give s side) u.row) out.out
+
+  -- the row has reached the idle limit only where a request can't be answered yet
+  long-row : (pends : Bool) (row : ℕ) → is_pending side ≡ pends → setting.idle ≤ row_with pends row → is_pending side ≡ true
+  long-row true row is long = is
+  long-row false row is long = absurd (omega (arith, some_idle, long))
 
   -- process 1 goes on
-  rest-on : (v : World) (p : Process) → v ≡ given (u.process 1).stage births u (give_of 0 1 calls fuel halt side) →
-      Alters u v 1 p → p.start ≡ (u.process 1).start → v.over ≡ u.over → is_live p.stage ≡ true → is_away p.stage ≡ false →
-      ((request : Request) → p.stage ≡ Waiting request → AsksSomething setting) → IsResting setting births (next births u (Give 0 1 calls fuel halt side)) gs
-  rest-on v p is alters started over live home waits =
+  rest-on : (v : World) (p : Process) → v ≡ given (u.process 1).stage births u give_is →
+      Becomes u v p → p.start ≡ (u.process 1).start → v.over ≡ u.over → is_live p.stage ≡ true → is_away p.stage ≡ false →
+      ((request : Request) → p.stage ≡ Waiting request → AsksSomething setting) → (is_pending side ≡ true → AsksSomething setting) →
+      IsResting setting births (next births u (Give 0 1 calls fuel halt side)) gs
+  rest-on v p is alters started over live home waits pends =
       let drawn : v.numbers_drawn ≡ 1 = alters.drawn ∙ out.drawn in
       let x : World = with_row (row_with (is_pending_give (u.process 1).stage side) u.row) (queued u.ready (1 ∷ []) v) in
       let same : next births u (Give 0 1 calls fuel halt side) ≡ x = ap (λ (y : World). with_row (row_with (is_pending_give (u.process 1).stage side) u.row) (queued u.ready (1 ∷ []) y)) (sym is) in
@@ -361,13 +370,13 @@ module _ {P : Type 0} (setting : Setting P) (births : List Birth) (w u : World) 
         at_home = subst (λ (y : World). IsAtHome setting y) (sym same) at;
         rounds = gives-back;
         workers = workers-given;
-        busy = λ _. subst (λ (n : ℕ). n < setting.idle) (sym row-given) some_idle;
+        asks = λ _ long. pends (long-row (is_pending side) u.row refl (subst (λ (n : ℕ). setting.idle ≤ n) row-given long));
         none_ended = λ _. none-given;
         ended = λ o. true_is_not_false (sym o ∙ ap (λ (y : World). y.over) same ∙ over ∙ out.going);
       }
 
   -- process 1 ends by its halt
-  rest-end : (v : World) (end : End) → v ≡ given (u.process 1).stage births u (give_of 0 1 calls fuel halt side) →
+  rest-end : (v : World) (end : End) → v ≡ given (u.process 1).stage births u give_is →
       IsEndedBy end u v (u.process 1).start fuel → want_of halt ≡ Ends end → IsTurnOfFirst setting calls fuel halt → IsResting setting births (next births u (Give 0 1 calls fuel halt side)) gs
   rest-end v end is ends halts turn =
       let drawn : v.numbers_drawn ≡ 1 = ends.drawn ∙ out.drawn in
@@ -387,7 +396,7 @@ module _ {P : Type 0} (setting : Setting P) (births : List Birth) (w u : World) 
         at_home = subst (λ (y : World). IsAtHome setting y) (sym same) at;
         rounds = gives-back;
         workers = workers-given;
-        busy = λ o. true_is_not_false (sym over ∙ o);
+        asks = λ o _. true_is_not_false (sym over ∙ o);
         none_ended = λ o. true_is_not_false (sym over ∙ o);
         ended = λ _. record {
           earlier = fs;
@@ -401,19 +410,21 @@ module _ {P : Type 0} (setting : Setting P) (births : List Birth) (w u : World) 
       }
 
   -- GIVE. After the Give the run is at rest again.
-  pub rest-given : (v : World) (want : Want) → want_of halt ≡ want → v ≡ given (u.process 1).stage births u (give_of 0 1 calls fuel halt side) → GoesBy want u v (u.process 1).start fuel →
-      (want ≡ Retries → ⊥) → IsTurnOfFirst setting calls fuel halt → ((request : Request) → want ≡ Wants request → AsksSomething setting) → IsResting setting births (next births u
-      (Give 0 1 calls fuel halt side)) gs
-  rest-given v Goes wants is goes own turn asks =
-      rest-on v goes.process is goes.becomes.alters goes.start_is goes.becomes.over (ap is_live goes.ready) (ap is_away goes.ready) (λ request e. let x : Ready ≡ Waiting request = sym goes.ready
-      ∙ e in absurd (cc))
-  rest-given v (Wants request) wants is goes own turn asks =
-      rest-on v goes.process is goes.becomes.alters goes.start_is goes.becomes.over
+  pub rest-given : (v : World) (want : Want) → want_of halt ≡ want → v ≡ given (u.process 1).stage births u give_is → GoesBy want u v (u.process 1).start fuel side →
+      ((end : End) → want ≡ Ends end → IsTurnOfFirst setting calls fuel halt) → ((request : Request) → want ≡ Wants request → AsksSomething setting) →
+      (is_pending side ≡ true → AsksSomething setting) → IsResting setting births (next births u (Give 0 1 calls fuel halt side)) gs
+  rest-given v Goes wants is goes turn asks pends =
+      rest-on v goes.process is goes.becomes goes.start_is goes.becomes.over (ap is_live goes.ready) (ap is_away goes.ready) (λ request e. let x : Ready ≡ Waiting request = sym goes.ready
+      ∙ e in absurd (cc)) pends
+  rest-given v (Wants request) wants is goes turn asks pends =
+      rest-on v goes.process is goes.becomes goes.start_is goes.becomes.over
       (elim goes.stage as (λ _. is_live goes.process.stage ≡ true) [ inl e ↦ ap is_live e | inr e ↦ ap is_live e ])
       (elim goes.stage as (λ _. is_away goes.process.stage ≡ false) [ inl e ↦ ap is_away e | inr e ↦ ap is_away e ])
-      (λ _ _. asks request refl)
-  rest-given v Retries wants is goes own turn asks = absurd (own refl)
-  rest-given v (Ends end) wants is goes own turn asks = rest-end v end is goes wants turn
+      (λ _ _. asks request refl) pends
+  rest-given v Retries wants is goes turn asks pends =
+      rest-on v goes.process is goes.becomes goes.start_is goes.becomes.over (ap is_live goes.ready) (ap is_away goes.ready) (λ request e. let x : Ready ≡ Waiting request = sym goes.ready
+      ∙ e in absurd (cc)) pends
+  rest-given v (Ends end) wants is goes turn asks pends = rest-end v end is goes wants (turn end refl)
 
 -- END OF ALL
 
@@ -461,7 +472,7 @@ rest-all setting births w es gs entry end home going none becomes more by zero_i
       at_home = subst (λ (y : World). IsAtHome setting y) (sym is) at;
       rounds = λ rests h. rw (more, append_assoc) (before rests h);
       workers = rw more (by-zero es entry zero_is workers);
-      busy = λ o. true_is_not_false (sym over ∙ o);
+      asks = λ o _. true_is_not_false (sym over ∙ o);
       none_ended = λ o. true_is_not_false (sym over ∙ o);
       ended = λ _. record {
         earlier = es;

@@ -1,8 +1,13 @@
 -- What the run of a file says, by the run of its module.
-use Rattle.std.proofs.Common.{◌≡◌, ◌≢◌, ℕ, List, Option, Some, None, IsSome, refl, ap, ◌⊎◌, inl, inr}
+use Rattle.std.proofs.Common.{◌≡◌, ◌≢◌, ℕ, List, [], Option, Some, None, IsSome, true, false, refl, sym, ◌∙◌, ap, ◌⊎◌, inl, inr}
 use Rattle.std.specs.Prelude.{◌↔◌, IsSomeAnd}
+use Rattle.resource_table.specs.Steps.{Told}
 use Rattle.outside.specs.Files.{Contents}
 use Rattle.host_port.specs.declared.start.StartRefusal.{StartRefusal}
+use Rattle.world_rules.specs.declared.entry.Entry.{Entry}
+use Rattle.world_rules.specs.Book.{Book, IsBlank}
+use Rattle.world_rules.specs.World.{first_world}
+use Rattle.world_rules.specs.Told.{told, all_after}
 use Rattle.wasm_form.specs.declared.parts.Parts.{Parts}
 use Rattle.module_validator.specs.declared.answer.Verdict.{Verdict}
 use Rattle.module_validator.specs.declared.answer.Verdict.TheVariants.{Accepted}
@@ -13,14 +18,29 @@ use Rattle.lunatic_cli.specs.Headline.{HeadlineOfFile}
 use Rattle.lunatic_cli.specs.Ending.{Outcome, RunsModule}
 
 -- a run that is told to its end
-pub headline-of : (content : Option Contents) (name : List ℕ) (options : Options) (m : Parts) (at : Outcome) (finish : Finish) → HasModule content name m → RunsModule options m at finish →
-    finish.status ≢ 3 → finish.status ≢ 5 → finish.status ≢ 8 → HeadlineOfFile content name options at.outsides at.sink.before at.sink.after finish.journal
+pub headline-of : {S : Type 0} {tells : Told S} (content : Option Contents) (name : List ℕ) (options : Options) (m : Parts) (at : Outcome) (finish : Finish S) → HasModule content name m →
+    RunsModule options m tells at finish → finish.status ≢ 3 → finish.status ≢ 5 → finish.status ≢ 8 →
+    HeadlineOfFile content name options at.outsides tells at.sink.before at.sink.after finish.journal finish.closed.items
 headline-of content name options m at finish has (inl whole) three five eight = elim whole.writes [
   | inl reported ↦ record { module_of_file = m; is_module = has; holds = record { journal = whole.journal; written = reported.written } }
   | inr rest ↦ elim rest [ inl unwritten ↦ absurd (five unwritten.status_is) | inr memory ↦ absurd (eight memory.0) ]
 ]
 headline-of content name options m at finish has (inr (inl refuses)) three five eight = absurd (three refuses.status_is)
 headline-of content name options m at finish has (inr (inr nothing)) three five eight = absurd (eight nothing.status_is)
+
+-- a run whose journal is blank closes nothing: a run that is over has an entry
+
+blank-goes-on : {A : Type 0} (book : Book) → IsBlank book → (told book).over ≡ true → A
+unfolding told
+blank-goes-on book blank over =
+    let e : false ≡ true = sym (ap (λ (entries : List Entry). (all_after book.births (first_world book.births) entries).over) blank.entries) ∙ over in
+    absurd (cc)
+
+pub blank-closed : {S : Type 0} {tells : Told S} (options : Options) (m : Parts) (at : Outcome) (finish : Finish S) → RunsModule options m tells at finish → IsBlank finish.journal →
+    finish.closed.items ≡ []
+blank-closed options m at finish (inl whole) blank = blank-goes-on finish.journal blank whole.journal.is_over
+blank-closed options m at finish (inr (inl refuses)) blank = refuses.none_closed
+blank-closed options m at finish (inr (inr nothing)) blank = nothing.none_closed
 
 -- when it is refused
 

@@ -2,6 +2,7 @@
 use Rattle.std.proofs.Common.{◌≡◌, ◌≢◌, ℕ, List, [], Bool, true, false, cond, Option, Some, None, refl, sym, ◌∙◌, ap, ◌⊎◌, inl, inr, arith}
 use Rattle.std.specs.List.{list_any}
 use Rattle.std.specs.Option.{is_none}
+use Rattle.resource_table.specs.Steps.{Told}
 use Rattle.outside.specs.Causes.{RoseOrFull, StayedBelow}
 use Rattle.host_port.specs.declared.start.StartRefusal.{StartRefusal}
 use Rattle.world_rules.specs.declared.entry.Entry.{Entry}
@@ -66,15 +67,15 @@ told-ran status (inr (inr (inr (inr (inl seven))))) = (λ e. omega arith, λ e. 
 told-ran status (inr (inr (inr (inr (inr eight))))) = (λ e. omega arith, λ e. omega arith)
 
 -- a file that was run was read
-pub runs-read : (options : Options) (m : Parts) (at : Outcome) (finish : Finish) → RunsModule options m at finish → finish.status ≢ 4
+pub runs-read : {S : Type 0} {tells : Told S} (options : Options) (m : Parts) (at : Outcome) (finish : Finish S) → RunsModule options m tells at finish → finish.status ≢ 4
 runs-read options m at finish (inl whole) = (told-ran finish.status (reports-told _ _ finish.journal finish.status whole.writes)).1
 runs-read options m at finish (inr (inl refuses)) = λ e. let three = refuses.status_is in omega arith
 runs-read options m at finish (inr (inr nothing)) = λ e. let eight = nothing.status_is in omega arith
 
 -- a module that begins isn't refused, and one that doesn't is, want of memory aside
 
-pub begun-told : (options : Options) (m : Parts) (at : Outcome) (finish : Finish) (before now : ℕ) → RunsModule options m at finish → (finish.status ≡ 5 → RoseOrFull before now) →
-    StayedBelow before now → begin m (first_start options) ≡ None → IsTold finish.status
+pub begun-told : {S : Type 0} {tells : Told S} (options : Options) (m : Parts) (at : Outcome) (finish : Finish S) (before now : ℕ) →
+    RunsModule options m tells at finish → (finish.status ≡ 5 → RoseOrFull before now) → StayedBelow before now → begin m (first_start options) ≡ None → IsTold finish.status
 begun-told options m at finish before now (inl whole) cause stayed begun = elim (reports-told _ _ finish.journal finish.status whole.writes) [
   | inl five ↦ absurd (omega (arith, cause five, stayed))
   | inr told ↦ told
@@ -82,8 +83,8 @@ begun-told options m at finish before now (inl whole) cause stayed begun = elim 
 begun-told options m at finish before now (inr (inl refuses)) cause stayed begun = let e = sym begun ∙ refuses.refused in absurd (cc)
 begun-told options m at finish before now (inr (inr nothing)) cause stayed begun = inr (inr (inr (inr nothing.status_is)))
 
-pub unbegun-refused : (options : Options) (m : Parts) (at : Outcome) (finish : Finish) (why : StartRefusal) → RunsModule options m at finish → begin m (first_start options) ≡ Some why →
-    (finish.status ≡ 3) ⊎ (finish.status ≡ 8)
+pub unbegun-refused : {S : Type 0} {tells : Told S} (options : Options) (m : Parts) (at : Outcome) (finish : Finish S) (why : StartRefusal) →
+    RunsModule options m tells at finish → begin m (first_start options) ≡ Some why → (finish.status ≡ 3) ⊎ (finish.status ≡ 8)
 unbegun-refused options m at finish why (inl whole) unbegun =
     let begun : is_none (begin m (first_start options)) ≡ true = whole.journal.journal_is_run.begins.begun in
     let e : false ≡ true = sym (ap is_none unbegun) ∙ begun in
@@ -110,12 +111,13 @@ blank-has-none : {A : Type 0} (test : Entry → Bool) (book : Book) → book.ent
 blank-has-none test book none some = let e : false ≡ true = sym (ap (list_any test) none) ∙ some in absurd (cc)
 
 -- nor has the journal of a run that did not start
-pub unstarted-blank : {A : Type 0} (test : Entry → Bool) (options : Options) (m : Parts) (sink : Written) (finish : Finish) → RefusesStart options m sink finish ⊎ RunsNothing sink finish →
+pub unstarted-blank : {A S : Type 0} (test : Entry → Bool) (options : Options) (m : Parts) (sink : Written) (finish : Finish S) → RefusesStart options m sink finish ⊎ RunsNothing sink finish →
     list_any test finish.journal.entries ≡ true → A
 unstarted-blank test options m sink finish (inl refuses) some = blank-has-none test finish.journal refuses.blank.entries some
 unstarted-blank test options m sink finish (inr nothing) some = blank-has-none test finish.journal nothing.blank.entries some
 
-pub stalled-by : (options : Options) (m : Parts) (at : Outcome) (finish : Finish) → RunsModule options m at finish → list_any is_stall finish.journal.entries ≡ true →
+pub stalled-by : {S : Type 0} {tells : Told S} (options : Options) (m : Parts) (at : Outcome) (finish : Finish S) →
+    RunsModule options m tells at finish → list_any is_stall finish.journal.entries ≡ true →
     list_any is_idle finish.journal.entries ≡ false → (finish.status ≡ 6) ⊎ ((finish.status ≡ 5) ⊎ (finish.status ≡ 8))
 stalled-by options m at finish (inr (inr nothing)) stall never_idle = inr (inr nothing.status_is)
 stalled-by options m at finish (inr (inl refuses)) stall never_idle = blank-has-none is_stall finish.journal refuses.blank.entries stall
@@ -126,8 +128,8 @@ stalled-by options m at finish (inl whole) stall never_idle = elim whole.writes 
   | inr rest ↦ elim rest [ inl unwritten ↦ inr (inl unwritten.status_is) | inr none ↦ inr (inr none.0) ]
 ]
 
-pub idled-by : (options : Options) (m : Parts) (at : Outcome) (finish : Finish) → RunsModule options m at finish → list_any is_idle finish.journal.entries ≡ true →
-    (finish.status ≡ 7) ⊎ ((finish.status ≡ 5) ⊎ (finish.status ≡ 8))
+pub idled-by : {S : Type 0} {tells : Told S} (options : Options) (m : Parts) (at : Outcome) (finish : Finish S) →
+    RunsModule options m tells at finish → list_any is_idle finish.journal.entries ≡ true → (finish.status ≡ 7) ⊎ ((finish.status ≡ 5) ⊎ (finish.status ≡ 8))
 idled-by options m at finish (inr (inr nothing)) idle = inr (inr nothing.status_is)
 idled-by options m at finish (inr (inl refuses)) idle = blank-has-none is_idle finish.journal refuses.blank.entries idle
 idled-by options m at finish (inl whole) idle = elim whole.writes [
@@ -155,7 +157,8 @@ told-seven true false stalls end is = absurd (cc)
 told-seven false false true end is = absurd (cc)
 told-seven false false false end is = absurd ((neither (status_of_end end) (status-kinds end)).1 (sym is))
 
-pub stalls-by : (options : Options) (m : Parts) (at : Outcome) (finish : Finish) → RunsModule options m at finish → finish.status ≡ 6 → list_any is_stall finish.journal.entries ≡ true
+pub stalls-by : {S : Type 0} {tells : Told S} (options : Options) (m : Parts) (at : Outcome) (finish : Finish S) →
+    RunsModule options m tells at finish → finish.status ≡ 6 → list_any is_stall finish.journal.entries ≡ true
 stalls-by options m at finish (inr (inr nothing)) six = let e = nothing.status_is in absurd (omega arith)
 stalls-by options m at finish (inr (inl refuses)) six = let e = refuses.status_is in absurd (omega arith)
 stalls-by options m at finish (inl whole) six = elim whole.writes [
@@ -164,7 +167,8 @@ stalls-by options m at finish (inl whole) six = elim whole.writes [
   | inr rest ↦ elim rest [ inl unwritten ↦ (let e = unwritten.status_is in absurd (omega arith)) | inr none ↦ (let e = none.0 in absurd (omega arith)) ]
 ]
 
-pub idles-by : (options : Options) (m : Parts) (at : Outcome) (finish : Finish) → RunsModule options m at finish → finish.status ≡ 7 → list_any is_idle finish.journal.entries ≡ true
+pub idles-by : {S : Type 0} {tells : Told S} (options : Options) (m : Parts) (at : Outcome) (finish : Finish S) →
+    RunsModule options m tells at finish → finish.status ≡ 7 → list_any is_idle finish.journal.entries ≡ true
 idles-by options m at finish (inr (inr nothing)) seven = let e = nothing.status_is in absurd (omega arith)
 idles-by options m at finish (inr (inl refuses)) seven = let e = refuses.status_is in absurd (omega arith)
 idles-by options m at finish (inl whole) seven = elim whole.writes [
@@ -179,7 +183,8 @@ told-starved : (book : Book) (end : End) (status : ℕ) → status ≡ told_stat
 told-starved book end status is starve =
     is ∙ ap (λ (b : Bool). cond b 8 (cond (list_any is_idle book.entries) 7 (cond (list_any is_stall book.entries) 6 (status_of_end end)))) starve
 
-pub starved-by : (options : Options) (m : Parts) (at : Outcome) (finish : Finish) → RunsModule options m at finish → list_any is_starve finish.journal.entries ≡ true → finish.status ≡ 8
+pub starved-by : {S : Type 0} {tells : Told S} (options : Options) (m : Parts) (at : Outcome) (finish : Finish S) →
+    RunsModule options m tells at finish → list_any is_starve finish.journal.entries ≡ true → finish.status ≡ 8
 starved-by options m at finish (inr (inr nothing)) starve = nothing.status_is
 starved-by options m at finish (inr (inl refuses)) starve = blank-has-none is_starve finish.journal refuses.blank.entries starve
 starved-by options m at finish (inl whole) starve = elim whole.writes [

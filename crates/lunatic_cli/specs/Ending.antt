@@ -1,5 +1,5 @@
 -- How the program may end, by the words, the file and the sink.
-use Rattle.std.specs.Prelude.{◌≡◌, ◌≢◌, ℕ, ◌⊎◌, List, Option, Some, None, IfSome}
+use Rattle.std.specs.Prelude.{◌≡◌, ◌≢◌, ℕ, ◌⊎◌, List, [], Option, Some, None, IfSome}
 use Rattle.outside.specs.Files.{Contents}
 use Rattle.host_port.specs.declared.start.StartRefusal.{StartRefusal}
 use Rattle.world_rules.specs.Book.{Book, IsBlank}
@@ -11,6 +11,7 @@ use Rattle.module_validator.specs.declared.answer.Verdict.TheVariants.{Accepted}
 use Rattle.tree_machine.specs.Begin.{begin}
 use Rattle.lunatic_cli.specs.declared.options.Options.{Options}
 use Rattle.lunatic_cli.specs.declared.finish.Finish.{Finish}
+use Rattle.resource_table.specs.Steps.{Told}
 use Rattle.lunatic_cli.specs.Words.{Command, Run, Check}
 use Rattle.lunatic_cli.specs.Statuses.{HasStatus}
 use Rattle.lunatic_cli.specs.File.{HasVerdict, HasModule}
@@ -46,57 +47,61 @@ WritesReport old new book status =
     IsReported old new book status ⊎ (IsUnwritten old new book status ⊎ ((status ≡ 8) × (new ≡ old)))
 
 -- the run is over, and what is written is of its journal
-pub record RunsWhole {P : Type 0} (setting : Setting P) (at : Outcome) (finish : Finish) : Type 0 where
+pub record RunsWhole {P S : Type 0} (setting : Setting P) (tells : Told S) (at : Outcome) (finish : Finish S)
+    : Type 0 where
   pub begun : finish.start ≡ None
-  pub journal : OneJournal setting at.outsides finish.journal
+  pub journal : OneJournal setting at.outsides tells finish.journal finish.closed.items
   pub writes : WritesReport at.sink.before at.sink.after finish.journal finish.status
 
 -- process 1 can't start so: why, as the module's begin says, with its line; and nothing ran
-pub record RefusesStart (options : Options) (m : Parts) (sink : Written) (finish : Finish) : Type 0 where
+pub record RefusesStart {S : Type 0} (options : Options) (m : Parts) (sink : Written) (finish : Finish S) : Type 0 where
   pub why : StartRefusal
   pub refused : begin m (first_start options) ≡ Some why
   pub start_is : finish.start ≡ Some why
   pub status_is : finish.status ≡ 3
   pub line : WritesLine (start_line why) sink
   pub blank : IsBlank finish.journal
+  pub none_closed : finish.closed.items ≡ []
 
 -- memory was wanting before anything ran
-pub record RunsNothing (sink : Written) (finish : Finish) : Type 0 where
+pub record RunsNothing {S : Type 0} (sink : Written) (finish : Finish S) : Type 0 where
   pub unrefused : finish.start ≡ None
   pub status_is : finish.status ≡ 8
   pub nothing : sink.after ≡ sink.before
   pub blank : IsBlank finish.journal
+  pub none_closed : finish.closed.items ≡ []
 
 -- the end of a run of this module: it is over, or process 1 can't start, or memory was wanting
-abbrev pub RunsModule : Options → Parts → Outcome → Finish → Type 0
-RunsModule options m at finish =
-    RunsWhole (run_setting options m) at finish ⊎ (RefusesStart options m at.sink finish ⊎ RunsNothing at.sink finish)
+abbrev pub RunsModule : {S : Type 0} → Options → Parts → Told S → Outcome → Finish S → Type 0
+RunsModule options m tells at finish =
+    RunsWhole (run_setting options m) tells at finish ⊎ (RefusesStart options m at.sink finish ⊎ RunsNothing at.sink finish)
 
 -- the file is an accepted module, and this is the end of its run
-pub record EndsAccepted (content : Option Contents) (name : List ℕ) (options : Options) (at : Outcome) (finish : Finish)
-    : Type 0 where
+pub record EndsAccepted {S : Type 0} (content : Option Contents) (name : List ℕ) (options : Options) (tells : Told S)
+    (at : Outcome) (finish : Finish S) : Type 0 where
   pub module_of_file : Parts
   pub file : HasModule content name module_of_file
-  pub run : RunsModule options module_of_file at finish
+  pub run : RunsModule options module_of_file tells at finish
 
 -- the end of a run of the file of this name, by its verdict
-abbrev pub EndsRun : Option Contents → (name : List ℕ) → Options → Outcome → Finish → Option Verdict → Type 0
-EndsRun content name options at finish None = EndsUnjudged at.sink finish.status
-EndsRun content name options at finish (Some Accepted) = EndsAccepted content name options at finish
-EndsRun content name options at finish (Some refused) =
+abbrev pub EndsRun : {S : Type 0} → Option Contents → (name : List ℕ) → Options → Told S → Outcome → Finish S
+    → Option Verdict → Type 0
+EndsRun content name options tells at finish None = EndsUnjudged at.sink finish.status
+EndsRun content name options tells at finish (Some Accepted) = EndsAccepted content name options tells at finish
+EndsRun content name options tells at finish (Some refused) =
     HasVerdict content name refused × TellsRefused refused at.sink finish.status
 
 -- the words are refused
-pub record EndsRefused (sink : Written) (finish : Finish) : Type 0 where
+pub record EndsRefused {S : Type 0} (sink : Written) (finish : Finish S) : Type 0 where
   pub status_is : finish.status ≡ 2
   pub verdict_is : finish.verdict ≡ None
   pub line : WritesLine words_line sink
 
 -- the end of the program, by what the words ask for; a run has the options that stand where none are named
-abbrev pub Ends : Option Contents → Outcome → Finish → Option Command → Type 0
-Ends content at finish None = EndsRefused at.sink finish
-Ends content at finish (Some (Run name)) = EndsRun content name default_options at finish finish.verdict
-Ends content at finish (Some (Check name)) = EndsCheck content name at.sink finish.status finish.verdict
+abbrev pub Ends : {S : Type 0} → Option Contents → Told S → Outcome → Finish S → Option Command → Type 0
+Ends content tells at finish None = EndsRefused at.sink finish
+Ends content tells at finish (Some (Run name)) = EndsRun content name default_options tells at finish finish.verdict
+Ends content tells at finish (Some (Check name)) = EndsCheck content name at.sink finish.status finish.verdict
 
 -- what becomes of a run of the file of this name, want of memory aside, where neither its reading nor a write fails
 pub record CompletesRun (content : Option Contents) (name : List ℕ) (options : Options) (status : ℕ) : Type 0 where

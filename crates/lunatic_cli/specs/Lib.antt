@@ -8,6 +8,8 @@ pub mod Times
 pub mod Entering
 pub mod Statuses
 pub mod Quiet
+pub mod Causes
+pub mod Handles
 pub mod Resting
 pub mod Options
 pub mod Runs

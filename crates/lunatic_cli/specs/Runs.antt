@@ -34,7 +34,7 @@ valid_setting options valid = record {
 }
 
 -- a node in which process 1 is born on this module, and nothing has happened
-pub record IsFirstNode (options : Options) (valid : ValidModule) (node : Seen ValidModule) : Type 0 where
+pub record IsFirstNode {S : Type 0} (options : Options) (valid : ValidModule) (node : Seen ValidModule S) : Type 0 where
   pub programs : node.programs ≡ valid ∷ []
   pub births : node.book.births ≡ Born (first_start options) ∷ []
   pub entries : node.book.entries ≡ []

@@ -1,6 +1,6 @@
 use crate::{Finish, Options, run_call};
 use host_port::Limits;
-use outside::{MemFiles, MemOutside, MemSink, Outside};
+use outside::{MemFiles, MemOutside, MemSink, MemStream, Outside};
 use std::alloc::Global;
 use std::test::Fail;
 
@@ -141,7 +141,7 @@ fn ran(
     bytes: &[u8],
     traffic: u64,
     idle: u64,
-) -> Result<(Finish, MemSink, u64), Fail> {
+) -> Result<(Finish<MemStream>, MemSink, u64), Fail> {
     let file = (String::from_str(alloc, "file")?, bytes.to_vec(alloc)?);
     let mut files = MemFiles::new(vec![in alloc; file]?, Vec::new(alloc));
     let mut out = MemSink::new(alloc, 200, 200, Vec::new(alloc), Vec::new(alloc))?;

@@ -1,14 +1,16 @@
-ghost use Rattle.std.specs.Prelude.{◌≡◌, None};
+ghost use Rattle.std.specs.Prelude.{◌≡◌, [], None};
 ghost use Rattle.world_rules.specs.Book.{IsBlank};
 
 use host_port::StartRefusal;
 use journal::Journal;
 use module_validator::Verdict;
+use outside::Stream;
+use resource_table::Owned;
 use std::alloc::Global;
 
-/// How a run of the program ended.
-#[derive(Debug, Drop)]
-pub struct Finish {
+/// How a run of the program ended. It is `Drop` only where its streams are.
+#[derive(Drop)]
+pub struct Finish<S: Stream> {
     /// The exit status.
     pub status: u8,
     /// The verdict on the module, where it was judged: none also where the line of a verdict couldn't be made for want
@@ -18,35 +20,40 @@ pub struct Finish {
     pub start: Option<StartRefusal>,
     /// What happened in the run. Where nothing ran, it is empty.
     pub journal: Journal,
+    /// The streams of the run, shut, in the order of their closing. Where nothing ran, there are none.
+    pub closed: Vec<Owned<S>>,
 }
 
-impl Finish {
+impl<S: Stream> Finish<S> {
     /// The end of a command in which nothing ran.
     pub fn without_run(
         alloc: Global,
         status: u8,
         verdict: Option<Verdict>,
         start: Option<StartRefusal>,
-    ) -> Finish
+    ) -> Finish<S>
         ensures status { result.status ≡ status }
         ensures verdict { result.verdict ≡ verdict }
         ensures start { result.start ≡ start }
         ensures blank { IsBlank result.journal }
+        ensures none_closed { result.closed.items ≡ [] }
     {
         Finish {
             status,
             verdict,
             start,
             journal: Journal::new(alloc),
+            closed: Vec::new(alloc),
         }
     }
 
     /// The end of a command in which nothing ran, as a check tells it.
-    pub fn of_check(alloc: Global, checked: Checked) -> Finish
+    pub fn of_check(alloc: Global, checked: Checked) -> Finish<S>
         ensures status { result.status ≡ checked.status }
         ensures verdict { result.verdict ≡ checked.verdict }
         ensures start { result.start ≡ None }
         ensures blank { IsBlank result.journal }
+        ensures none_closed { result.closed.items ≡ [] }
     {
         Finish::without_run(alloc, checked.status, checked.verdict, None)
     }

@@ -22,7 +22,7 @@ mod top_call;
 mod words;
 mod writing;
 
-pub use alone::run_alone;
+pub use alone::{Ran, run_alone};
 pub use check::check_call;
 pub use finish::{Checked, Finish};
 pub use module_validator::{Place, Verdict};
@@ -36,5 +36,7 @@ mod check_tests;
 mod data_tests;
 #[cfg(test)]
 mod row_tests;
+#[cfg(test)]
+mod stream_tests;
 #[cfg(test)]
 mod tests;

@@ -1,6 +1,6 @@
 use crate::{Finish, Options, Verdict, run_call};
 use host_port::{Limits, StartRefusal};
-use outside::{MemFiles, MemOutside, MemSink};
+use outside::{MemFiles, MemOutside, MemSink, MemStream};
 use std::alloc::Global;
 use std::test::Fail;
 
@@ -176,7 +176,7 @@ const FILLS_ITS_MAILBOX: [u8; 233] = [
 const FUEL: u64 = 1_000_000_000;
 
 /// How the run of a file with these bytes and this fuel ends, and what it writes.
-fn ran(alloc: Global, bytes: &[u8], fuel: u64) -> Result<(Finish, MemSink), Fail> {
+fn ran(alloc: Global, bytes: &[u8], fuel: u64) -> Result<(Finish<MemStream>, MemSink), Fail> {
     let file = (String::from_str(alloc, "file")?, bytes.to_vec(alloc)?);
     let mut files = MemFiles::new(vec![in alloc; file]?, Vec::new(alloc));
     let mut out = MemSink::new(alloc, 200, 200, Vec::new(alloc), Vec::new(alloc))?;

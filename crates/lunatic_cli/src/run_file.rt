@@ -1,10 +1,11 @@
-ghost use Rattle.std.specs.Prelude.{◌≡◌, ◌≢◌, ◌<◌, ◌≤◌, ◌⊎◌, ◌↔◌, ℕ, List, Option, Some, IfOk, IfErr, IsSome, IsSomeAnd, None, true, map, vec_len};
+ghost use Rattle.std.specs.Prelude.{◌≡◌, ◌≢◌, ◌<◌, ◌≤◌, ◌⊎◌, ◌↔◌, ℕ, List, [], Option, Some, IfOk, IfErr, IsSome, IsSomeAnd, None, true, map, vec_len};
 ghost use Rattle.std.specs.List.{list_any};
+ghost use Rattle.resource_table.specs.Steps.{told};
 ghost use Rattle.outside.specs.Causes.{Rose, RoseOrFull, Stayed, StayedBelow};
 ghost use Rattle.world_rules.specs.Book.{IsBlank};
 ghost use Rattle.lunatic_cli.specs.declared.options.Options.{Options as Opts};
 ghost use Rattle.lunatic_cli.specs.File.{HasModule, TellsUnread};
-ghost use Rattle.lunatic_cli.specs.Headline.{Tellings, HeadlineOfFile};
+ghost use Rattle.lunatic_cli.specs.Headline.{Tellings, HeadlineOfFile, tellings_of};
 ghost use Rattle.lunatic_cli.specs.Ending.{EndsRun, RunCompletes};
 ghost use Rattle.lunatic_cli.specs.Statuses.{is_stall, is_idle, is_starve};
 ghost use Rattle.lunatic_cli.specs.Times.{NoneFalls, NoneGoesBack};
@@ -15,22 +16,22 @@ use crate::run::run;
 use crate::telling::{tell_unjudged, tell_verdict};
 use crate::{Finish, Options, Verdict};
 use module_validator::Valid;
-use outside::{Files, Outside, Sink};
+use outside::{Files, Outside, Sink, Stream};
 use std::alloc::Global;
 use wasm_form::one_module;
 
 /// The module to run from the file of this name: the file is read and judged, and its module is run where it is
 /// accepted. Else the end of the run, in which nothing ran.
-fn module_to_run<F: Files, K: Sink>(
+fn module_to_run<F: Files, K: Sink, S: Stream>(
     alloc: Global,
     files: &mut F,
     out: &mut K,
     name: &str,
-) -> Result<Valid, Finish>
+) -> Result<Valid, Finish<S>>
     ensures accepted { IfOk result (λ valid. HasModule (F.content files.old) name.now valid.parts) }
     ensures silent { IfOk result (λ _. out.new ≡ out.old) }
     ensures ends { IfErr result (λ finish. (options : Opts) (outsides : Tellings) →
-        EndsRun (F.content files.old) name.now options (record {
+        EndsRun (F.content files.old) name.now options (told S.taken S.put S.faults S.waits S.empties S.down) (record {
           sink = record {
             faults_before = K.faults out.old;
             faults_after = K.faults out.new;
@@ -42,6 +43,7 @@ fn module_to_run<F: Files, K: Sink>(
     ensures unaccepted { IfErr result (λ finish. finish.verdict ≢ Some Verdict.Accepted) }
     ensures unstarted { IfErr result (λ finish. finish.start ≡ None) }
     ensures blank { IfErr result (λ finish. IsBlank finish.journal) }
+    ensures closed_blank { IfErr result (λ finish. finish.closed.items ≡ []) }
     ensures refused { IfErr result (λ finish. (finish.status ≡ 3) ↔ IsSome finish.verdict) }
     ensures statuses { IfErr result (λ finish. (finish.status ≡ 3) ⊎ ((finish.status ≡ 4) ⊎ (finish.status ≡ 8))) }
     ensures past_file { IfOk result (λ _.
@@ -88,36 +90,30 @@ pub fn run_call<F: Files, K: Sink, O: Outside>(
     outsides: &mut Vec<O>,
     name: &str,
     options: &Options,
-) -> Finish
+) -> Finish<O::Stream>
     requires some { 0 < vec_len outsides.old }
     requires one_worker { options.now.workers ≡ 1 }
     requires idle { 1 ≤ options.now.idle }
 
     // Where a run is told to its end, what is written is the report of one journal.
     ensures headline { result.status ≢ 3 → result.status ≢ 4 → result.status ≢ 5 → result.status ≢ 8 →
-        HeadlineOfFile (F.content files.old) name.now options.now (record {
-          clocks_before = map O.clock outsides.old.items;
-          clocks_after = map O.clock outsides.new.items;
-          rests_before = map O.rests outsides.old.items;
-          rests_after = map O.rests outsides.new.items;
-        })
-        (K.written out.old) (K.written out.new) result.journal }
+        HeadlineOfFile (F.content files.old) name.now options.now
+        (tellings_of O.clock O.faults O.waits O.rests outsides.old.items outsides.new.items)
+        (told O.Stream.taken O.Stream.put O.Stream.faults O.Stream.waits O.Stream.empties O.Stream.down)
+        (K.written out.old) (K.written out.new) result.journal result.closed.items }
 
     // What is judged and what is written, with each status.
-    ensures ends { EndsRun (F.content files.old) name.now options.now (record {
-      sink = record {
-        faults_before = K.faults out.old;
-        faults_after = K.faults out.new;
-        before = K.written out.old;
-        after = K.written out.new;
-      };
-      outsides = record {
-        clocks_before = map O.clock outsides.old.items;
-        clocks_after = map O.clock outsides.new.items;
-        rests_before = map O.rests outsides.old.items;
-        rests_after = map O.rests outsides.new.items;
-      };
-    }) result result.verdict }
+    ensures ends { EndsRun (F.content files.old) name.now options.now
+        (told O.Stream.taken O.Stream.put O.Stream.faults O.Stream.waits O.Stream.empties O.Stream.down)
+        (record {
+          sink = record {
+            faults_before = K.faults out.old;
+            faults_after = K.faults out.new;
+            before = K.written out.old;
+            after = K.written out.new;
+          };
+          outsides = tellings_of O.clock O.faults O.waits O.rests outsides.old.items outsides.new.items;
+        }) result result.verdict }
     ensures stalled { list_any is_stall result.journal.entries ≡ true →
         (result.status ≡ 6) ⊎ ((result.status ≡ 5) ⊎ (result.status ≡ 8)) }
     ensures stalls { result.status ≡ 6 → list_any is_stall result.journal.entries ≡ true }
@@ -127,6 +123,7 @@ pub fn run_call<F: Files, K: Sink, O: Outside>(
     ensures starved { list_any is_starve result.journal.entries ≡ true → result.status ≡ 8 }
     ensures blank { result.verdict ≢ Some Verdict.Accepted → IsBlank result.journal }
     ensures blank_unstarted { IsSome result.start → IsBlank result.journal }
+    ensures closed_blank { IsBlank result.journal → result.closed.items ≡ [] }
 
     // When each status comes.
     ensures words { result.status ≢ 2 }

@@ -2,7 +2,7 @@ ghost use Rattle.std.specs.Prelude.{◌≡◌, ◌≤◌, IsTrue, [], IfOk};
 ghost use Rattle.lunatic_cli.specs.Scripts.{are_served};
 ghost use Rattle.world_rules.specs.Report.{IsReportable};
 
-use crate::{Verdict, lunatic, run_alone};
+use crate::{Ran, Verdict, lunatic, run_alone};
 use host_port::{Ask, Bytes, Limits, Params, Start, StartRefusal};
 use journal::{Journal, report};
 use outside::{
@@ -288,7 +288,7 @@ fn script_text(alloc: Global, asks: Vec<Ask>) -> Result<Vec<u8>, Fail>
 {
     let mut outside = MemOutside::with_nothing(alloc);
     let node = script_node(alloc, asks)?;
-    let journal = run_alone(alloc, node, &mut outside);
+    let Ran { journal, closed: _ } = run_alone(alloc, node, &mut outside);
     Ok(text_of(alloc, &journal)?)
 }
 

@@ -1,10 +1,11 @@
-ghost use Rattle.std.specs.Prelude.{◌≡◌, ◌≢◌, ◌≤◌, ◌⊎◌, ◌↔◌, ℕ, List, Some, None, IfSome, IsSome, IsSomeAnd, true, map, string_bytes, vec_len};
+ghost use Rattle.std.specs.Prelude.{◌≡◌, ◌≢◌, ◌≤◌, ◌⊎◌, ◌↔◌, ℕ, List, [], Some, None, IfSome, IsSome, IsSomeAnd, true, map, string_bytes, vec_len};
 ghost use Rattle.std.specs.List.{list_any};
+ghost use Rattle.resource_table.specs.Steps.{told};
 ghost use Rattle.outside.specs.Causes.{Rose, RoseOrFull, Stayed, StayedBelow};
 ghost use Rattle.world_rules.specs.Book.{IsBlank};
 ghost use Rattle.lunatic_cli.specs.Words.{Run, Check, command_of, file_of};
 ghost use Rattle.lunatic_cli.specs.File.{TellsUnread};
-ghost use Rattle.lunatic_cli.specs.Headline.{HeadlineOfFile};
+ghost use Rattle.lunatic_cli.specs.Headline.{HeadlineOfFile, tellings_of};
 ghost use Rattle.lunatic_cli.specs.Ending.{Ends, Completes};
 ghost use Rattle.lunatic_cli.specs.Options.{default_options};
 ghost use Rattle.lunatic_cli.specs.Statuses.{is_stall, is_idle, is_starve};
@@ -28,35 +29,29 @@ pub fn lunatic<F: Files, K: Sink, O: Outside>(
     files: &mut F,
     out: &mut K,
     outsides: &mut Vec<O>,
-) -> Finish
+) -> Finish<O::Stream>
     requires outsides { 16 ≤ vec_len outsides.old }
 
     // Where a run is told to its end, what is written is the report of one journal.
     ensures headline { (name : List ℕ) → command_of (map string_bytes words.now) ≡ Some (Run name)
         → result.status ≢ 3 → result.status ≢ 4 → result.status ≢ 5 → result.status ≢ 8 →
-        HeadlineOfFile (F.content files.old) name default_options (record {
-          clocks_before = map O.clock outsides.old.items;
-          clocks_after = map O.clock outsides.new.items;
-          rests_before = map O.rests outsides.old.items;
-          rests_after = map O.rests outsides.new.items;
-        })
-        (K.written out.old) (K.written out.new) result.journal }
+        HeadlineOfFile (F.content files.old) name default_options
+        (tellings_of O.clock O.faults O.waits O.rests outsides.old.items outsides.new.items)
+        (told O.Stream.taken O.Stream.put O.Stream.faults O.Stream.waits O.Stream.empties O.Stream.down)
+        (K.written out.old) (K.written out.new) result.journal result.closed.items }
 
     // What is judged and what is written, with each status.
-    ensures ends { Ends (F.content files.old) (record {
-      sink = record {
-        faults_before = K.faults out.old;
-        faults_after = K.faults out.new;
-        before = K.written out.old;
-        after = K.written out.new;
-      };
-      outsides = record {
-        clocks_before = map O.clock outsides.old.items;
-        clocks_after = map O.clock outsides.new.items;
-        rests_before = map O.rests outsides.old.items;
-        rests_after = map O.rests outsides.new.items;
-      };
-    }) result (command_of (map string_bytes words.now)) }
+    ensures ends { Ends (F.content files.old)
+        (told O.Stream.taken O.Stream.put O.Stream.faults O.Stream.waits O.Stream.empties O.Stream.down)
+        (record {
+          sink = record {
+            faults_before = K.faults out.old;
+            faults_after = K.faults out.new;
+            before = K.written out.old;
+            after = K.written out.new;
+          };
+          outsides = tellings_of O.clock O.faults O.waits O.rests outsides.old.items outsides.new.items;
+        }) result (command_of (map string_bytes words.now)) }
     ensures stalled { list_any is_stall result.journal.entries ≡ true →
         (result.status ≡ 6) ⊎ ((result.status ≡ 5) ⊎ (result.status ≡ 8)) }
     ensures stalls { result.status ≡ 6 → list_any is_stall result.journal.entries ≡ true }
@@ -68,6 +63,7 @@ pub fn lunatic<F: Files, K: Sink, O: Outside>(
     ensures blank_unstarted { IsSome result.start → IsBlank result.journal }
     ensures blank_check { (name : List ℕ) → command_of (map string_bytes words.now) ≡ Some (Check name)
         → IsBlank result.journal }
+    ensures closed_blank { IsBlank result.journal → result.closed.items ≡ [] }
 
     // When each status comes.
     ensures words { (result.status ≡ 2) ↔ (command_of (map string_bytes words.now) ≡ None) }

@@ -1,17 +1,25 @@
-use Rattle.std.proofs.Common.{◌≡◌, ◌<◌, ◌≤◌, ◌++◌, [], ◌∷◌, ℕ, List, Option, refl, sym, ap, ◌∙◌, subst, arith, append-nil, inl, inr}
+use Rattle.std.proofs.Common.{◌≡◌, ◌++◌, [], ℕ, List, Option, Bool, cond, option_map, refl, sym, ap, ◌∙◌, subst, arith, append-nil, inl, inr}
+use Rattle.host_port.specs.declared.request.Request.{Request}
+use Rattle.host_port.specs.declared.start.Start.{Start}
+use Rattle.host_port.specs.Areas.{request_of}
 use Rattle.world_rules.specs.declared.entry.Entry.{Entry}
-use Rattle.world_rules.specs.declared.entry.Entry.TheVariants.{Take, Give, Stall, Idle, Starve}
+use Rattle.world_rules.specs.declared.entry.Entry.TheVariants.{Take, Give, Starve}
+use Rattle.world_rules.specs.Views.{deed_of, want_of, wanted_in, is_pending}
 use Rattle.node_state.specs.Seats.{meaning}
-use Rattle.host_calls.specs.Shown.{seat_of}
-use Rattle.process_table.specs.Seen.{world_of, setting_of}
+use Rattle.host_calls.specs.Outsides.{failures_in, waits_in}
+use Rattle.host_calls.specs.Shown.{seat_of, brought_in, streams_in, hands_of}
+use Rattle.process_table.specs.Seen.{world_of}
 use Rattle.lunatic_cli.specs.Quiet.{quiet_in}
 use Rattle.lunatic_cli.specs.Times.{times_of, time_beside, AreBetween}
 use Rattle.lunatic_cli.specs.Entering.{taken_by, takes_of, EntersAll}
 use Rattle.lunatic_cli.proofs.Clocks.{between-none, between-given, between-both, between-same, not-back-refl, not-back-same, not-back-then, times-ended, times-none, times-round, times-both}
 use Rattle.lunatic_cli.proofs.Entered.{enters-none, takes-ended, takes-none, takes-round}
-use Rattle.lunatic_cli.proofs.Steps.{rest-reserved, left-reserved, rest-starved, entries-starved, rest-nothing, rest-stuck, entries-stuck, answers-recorded, way-is, fits-given, rest-round}
-use Rattle.lunatic_cli.proofs.Steps.{fewer-round, fewer-proc, fewer-nothing, same-then}
-use Rattle.lunatic_cli.proofs.Ticking.{quiet-kept, quiet-starved, quiet-stuck, quiet-other, more-quiet, front-some, rested-one, rested-none}
+use Rattle.lunatic_cli.proofs.Steps.{rest-reserved, left-reserved, rest-starved, entries-starved, rest-nothing, rest-stuck, entries-stuck, way-is, fits-given, streams-given}
+use Rattle.lunatic_cli.proofs.Steps.{rest-round, gone-round, recorded-pends, recorded-fails, recorded-waits}
+use Rattle.lunatic_cli.proofs.Steps.{fewer-proc, fewer-nothing, same-then}
+use Rattle.lunatic_cli.proofs.Ticking.{quiet-kept, quiet-starved, quiet-stuck, quiet-other, quiet-more, more-quiet, front-some, one-or-none, rested-one}
+use Rattle.lunatic_cli.specs.Causes.{failures_by, waits_by}
+use Rattle.lunatic_cli.proofs.Causing.{counted-same, counted-other, counted-more, counted-starved, counted-stuck}
 use Rattle.lunatic_cli.proofs.alone.go_round.Goals as goal
 
 -- no memory for a round
@@ -46,6 +54,18 @@ returns-then-is_err-clause-rested g c =
     let same = quiet-starved c.args.node.now c.reserve_turn.new.self c.starve.new.self (world_of c.reserve_turn.new.self).over refl c.reserve_turn.ensures.kept c.starve.ensures.over
     c.starve.ensures.recorded in
     (0, omega (arith, same), omega arith, λ e. absurd (cc))
+
+pub returns-then-is_err-clause-failed : goal.returns-then-is_err-clause-failed
+returns-then-is_err-clause-failed g c =
+    let same = counted-starved failures_by c.args.node.now c.reserve_turn.new.self c.starve.new.self (world_of c.reserve_turn.new.self).over refl refl c.reserve_turn.ensures.kept
+    c.starve.ensures.over c.starve.ensures.recorded in
+    omega (arith, same)
+
+pub returns-then-is_err-clause-waited : goal.returns-then-is_err-clause-waited
+returns-then-is_err-clause-waited g c =
+    let same = counted-starved waits_by c.args.node.now c.reserve_turn.new.self c.starve.new.self (world_of c.reserve_turn.new.self).over refl refl c.reserve_turn.ensures.kept
+    c.starve.ensures.over c.starve.ensures.recorded in
+    omega (arith, same)
 
 -- the clock is read
 
@@ -100,6 +120,22 @@ returns-in-Over-clause-rested g c =
     read.one_more in
     (n.0, n.1, n.2, λ e. absurd (cc))
 
+pub returns-in-Over-clause-failed : goal.returns-in-Over-clause-failed
+returns-in-Over-clause-failed g c =
+    let kept = counted-same failures_by c.args.node.now.book c.reserve_turn.new.self.book c.reserve_turn.ensures.kept.births c.reserve_turn.ensures.kept.entries in
+    let same = counted-stuck failures_by c.read_clock.new.node c.take.new.self (world_of c.read_clock.new.node).over refl refl refl c.in-Over.ensures.taken in
+    let read = c.read_clock.ensures.failures in
+    let outside = c.read_clock.ensures.outside.faults in
+    omega (arith, kept, same, read, outside)
+
+pub returns-in-Over-clause-waited : goal.returns-in-Over-clause-waited
+returns-in-Over-clause-waited g c =
+    let kept = counted-same waits_by c.args.node.now.book c.reserve_turn.new.self.book c.reserve_turn.ensures.kept.births c.reserve_turn.ensures.kept.entries in
+    let same = counted-stuck waits_by c.read_clock.new.node c.take.new.self (world_of c.read_clock.new.node).over refl refl refl c.in-Over.ensures.taken in
+    let read = c.read_clock.ensures.waits in
+    let outside = c.read_clock.ensures.outside.waits in
+    omega (arith, kept, same, read, outside)
+
 -- nothing is ready
 
 pub returns-in-Nothing-clause-rest : goal.returns-in-Nothing-clause-rest
@@ -146,57 +182,36 @@ returns-in-Nothing-clause-rested g c =
 pub turn-turn-requires-clause-way : goal.turn-turn-requires-clause-way
 turn-turn-requires-clause-way g c κs within =
     way-is (meaning g.E.Engine.stands g.E.Engine.phase g.E.Engine.memory) g.E.Engine.begin g.E.Engine.at g.E.Engine.may_ask c.read_clock.new.node c.take.new.self (seat_of c.in-Proc.proc)
-    c.take.ensures.same c.read_clock.ensures.awake c.in-Proc.ensures.taken
+    c.take.ensures.same c.read_clock.ensures.awake c.in-Proc.ensures.taken.0
 
-pub give-requires-after_bounds : goal.give-requires-after_bounds
-give-requires-after_bounds g c κs within =
-    let engines = meaning g.E.Engine.stands g.E.Engine.phase g.E.Engine.memory in
-    let turn = c.turn-turn.result in
-    fits-given engines g.E.Engine.begin g.E.Engine.at g.E.Engine.may_ask c.read_clock.new.node c.take.new.self (seat_of c.in-Proc.proc) c.take.ensures.same c.read_clock.ensures.awake
-    c.in-Proc.ensures.taken (seat_of turn.proc) turn.calls turn.halt turn.side c.turn-turn.ensures.given c.turn-turn.ensures.same
+pub turn-turn-requires-clause-shed : goal.turn-turn-requires-clause-shed
+turn-turn-requires-clause-shed g c κs within = c.in-Proc.ensures.taken.1.shed_empty
 
-pub returns-in-Proc-clause-rest : goal.returns-in-Proc-clause-rest
-returns-in-Proc-clause-rest g c =
-    let engines = meaning g.E.Engine.stands g.E.Engine.phase g.E.Engine.memory in
-    let laws = g.met.E.Engine g.world.𝓛 g.world.𝓜 g.world.𝓡 ((λ s x. x), (λ x. x), (λ x. x), λ x. x) in
-    let turn = c.turn-turn.result in
-    let given = c.give.ensures.given in
-    let fits = fits-given engines g.E.Engine.begin g.E.Engine.at g.E.Engine.may_ask c.read_clock.new.node c.take.new.self (seat_of c.in-Proc.proc) c.take.ensures.same c.read_clock.ensures.awake
-    c.in-Proc.ensures.taken (seat_of turn.proc) turn.calls turn.halt turn.side c.turn-turn.ensures.given c.turn-turn.ensures.same in
-    rest-round engines g.E.Engine.begin g.E.Engine.at g.E.Engine.may_ask c.read_clock.new.node c.take.new.self (seat_of c.in-Proc.proc) c.take.ensures.same c.read_clock.ensures.awake
-    c.in-Proc.ensures.taken
-    c.give.new.self (seat_of turn.proc) turn.calls turn.halt turn.side given.0 given.2.0 c.give.ensures.same c.turn-turn.ensures.same fits given.2.1
-    (answers-recorded _ turn.halt turn.side given.0 c.turn-turn.ensures.side given.1) laws.asks_what_it_may
+pub give-requires-clause-fits : goal.give-requires-clause-fits
+give-requires-clause-fits g c κs within =
+    fits-given (meaning g.E.Engine.stands g.E.Engine.phase g.E.Engine.memory) g.E.Engine.begin g.E.Engine.at g.E.Engine.may_ask c.read_clock.new.node c.take.new.self (seat_of c.in-Proc.proc)
+    c.take.ensures.same c.read_clock.ensures.awake c.in-Proc.ensures.taken.0 (brought_in c.turn-turn.result) c.turn-turn.ensures.given c.turn-turn.ensures.same
 
-pub returns-in-Proc-clause-fewer : goal.returns-in-Proc-clause-fewer
-returns-in-Proc-clause-fewer g c _ =
-    let reserved = c.reserve_turn.ensures in
-    let engines = meaning g.E.Engine.stands g.E.Engine.phase g.E.Engine.memory in
-    let laws = g.met.E.Engine g.world.𝓛 g.world.𝓜 g.world.𝓡 ((λ s x. x), (λ x. x), (λ x. x), λ x. x) in
-    let turn = c.turn-turn.result in
-    let given = c.give.ensures.given in
-    let fits = fits-given engines g.E.Engine.begin g.E.Engine.at g.E.Engine.may_ask c.read_clock.new.node c.take.new.self (seat_of c.in-Proc.proc) c.take.ensures.same c.read_clock.ensures.awake
-    c.in-Proc.ensures.taken (seat_of turn.proc) turn.calls turn.halt turn.side c.turn-turn.ensures.given c.turn-turn.ensures.same in
-    let most = fewer-round engines g.E.Engine.begin g.E.Engine.at g.E.Engine.may_ask c.read_clock.new.node c.take.new.self (seat_of c.in-Proc.proc) c.take.ensures.same c.read_clock.ensures.awake
-    c.in-Proc.ensures.taken
-    c.give.new.self (seat_of turn.proc) turn.calls turn.halt turn.side given.0 given.2.0 c.give.ensures.same c.turn-turn.ensures.same fits given.2.1
-    (answers-recorded _ turn.halt turn.side given.0 c.turn-turn.ensures.side given.1) laws.asks_what_it_may laws.running_may_step in
-    let less = fewer-proc g.E.Engine.begin g.E.Engine.at c.reserve_turn.new.self c.read_clock.new.node _ _ _ c.read_clock.ensures.same c.read_clock.ensures.read c.in-Proc.ensures.taken.going most in
-    let left = left-reserved g.E.Engine.begin g.E.Engine.at c.args.node.now c.reserve_turn.new.self reserved.same reserved.kept in
-    omega (arith, left, less)
+pub give-requires-clause-streams : goal.give-requires-clause-streams
+give-requires-clause-streams g c κs within =
+    streams-given (meaning g.E.Engine.stands g.E.Engine.phase g.E.Engine.memory) g.E.Engine.begin g.E.Engine.at g.E.Engine.may_ask c.read_clock.new.node c.take.new.self (seat_of c.in-Proc.proc)
+    c.take.ensures.same c.read_clock.ensures.awake c.in-Proc.ensures.taken.0 _ (hands_of c.in-Proc.proc) (brought_in c.turn-turn.result) (streams_in c.turn-turn.result) c.turn-turn.ensures.same
+    c.in-Proc.ensures.taken.1.stand c.turn-turn.ensures.streams
 
 pub returns-in-Proc-clause-times : goal.returns-in-Proc-clause-times
 returns-in-Proc-clause-times g c =
     let read = c.read_clock.ensures in
     let turn = c.turn-turn.result in
     let given = c.give.ensures.given in
-    let stays = c.turn-turn.ensures.outside.clock in
-    let between = between-given (g.O.Outside.clock c.read_clock.new.outside) (g.O.Outside.clock c.enter.new.self) turn.halt turn.side given.0 c.enter.ensures.clock c.turn-turn.ensures.side given.1 in
-    let turned : AreBetween (g.O.Outside.clock c.read_clock.new.outside) (g.O.Outside.clock c.turn-turn.new.outside) (time_beside given.0) =
-    subst (λ (clock : Option ℕ). AreBetween (g.O.Outside.clock c.read_clock.new.outside) clock (time_beside given.0)) (sym stays) between in
-    let later = not-back-then _ _ _ c.enter.ensures.clock (not-back-same _ _ stays) in
+    let entered = c.enter.ensures.clock in
+    let goes = not-back-then (g.O.Outside.clock c.enter.new.self) (g.O.Outside.clock c.turn-turn.new.outside) (g.O.Outside.clock c.rest_if.new.outside)
+    c.turn-turn.ensures.outside.clock c.rest_if.ensures.clock in
+    let later = not-back-then (g.O.Outside.clock c.read_clock.new.outside) (g.O.Outside.clock c.enter.new.self) (g.O.Outside.clock c.rest_if.new.outside) entered goes in
+    let turned : AreBetween (g.O.Outside.clock c.read_clock.new.outside) (g.O.Outside.clock c.rest_if.new.outside) (time_beside given.0) =
+    between-given (g.O.Outside.clock c.read_clock.new.outside) (g.O.Outside.clock c.enter.new.self) (g.O.Outside.clock c.rest_if.new.outside)
+    turn.side given.0 entered goes c.turn-turn.ensures.time given.1 in
     let round = times-round c.read_clock.new.node.book.entries c.read_clock.new.node.book.entries c.take.new.self.book.entries c.give.new.self.book.entries (Take 0 c.in-Proc.proc.start.pid)
-    (Give 0 turn.proc.start.pid turn.calls turn.proc.fuel turn.halt given.0) refl c.in-Proc.ensures.taken.recorded.entries given.2.1.entries refl in (
+    (Give 0 turn.proc.start.pid turn.calls turn.proc.fuel turn.halt given.0) refl c.in-Proc.ensures.taken.0.recorded.entries given.2.1.entries refl in (
       read.times.0 ++ time_beside given.0,
       times-both c.args.node.now.book.entries c.reserve_turn.new.self.book.entries c.read_clock.new.node.book.entries c.give.new.self.book.entries read.times.0 (time_beside given.0)
           c.reserve_turn.ensures.kept.entries read.times.1 round,
@@ -209,26 +224,104 @@ returns-in-Proc-clause-entered g c =
     let turn = c.turn-turn.result in
     let given = c.give.ensures.given in
     let round = takes-round c.read_clock.new.node.book.entries c.read_clock.new.node.book.entries c.take.new.self.book.entries c.give.new.self.book.entries (Take 0 c.in-Proc.proc.start.pid)
-    (Give 0 turn.proc.start.pid turn.calls turn.proc.fuel turn.halt given.0) refl c.in-Proc.ensures.taken.recorded.entries given.2.1.entries refl in
+    (Give 0 turn.proc.start.pid turn.calls turn.proc.fuel turn.halt given.0) refl c.in-Proc.ensures.taken.0.recorded.entries given.2.1.entries refl in
     let started : EntersAll (g.O.Outside.entered c.args.outside.now) (g.O.Outside.entered c.enter.new.self) (taken_by (Take 0 c.in-Proc.proc.start.pid)) =
     subst (λ (from : Option (List ℕ)). EntersAll from (g.O.Outside.entered c.enter.new.self) (taken_by (Take 0 c.in-Proc.proc.start.pid))) read.entered c.enter.ensures.entered in (
       taken_by (Take 0 c.in-Proc.proc.start.pid),
       round ∙ ap (λ (ps : List ℕ). ps ++ taken_by (Take 0 c.in-Proc.proc.start.pid)) (read.takes ∙ ap takes_of c.reserve_turn.ensures.kept.entries),
-      subst (λ (told : Option (List ℕ)). EntersAll (g.O.Outside.entered c.args.outside.now) told (taken_by (Take 0 c.in-Proc.proc.start.pid))) (sym c.turn-turn.ensures.entered) started,
+      subst (λ (told : Option (List ℕ)). EntersAll (g.O.Outside.entered c.args.outside.now) told (taken_by (Take 0 c.in-Proc.proc.start.pid)))
+          (sym (c.rest_if.ensures.entered ∙ c.turn-turn.ensures.entered)) started,
     )
 
 pub returns-in-Proc-clause-clock : goal.returns-in-Proc-clause-clock
 returns-in-Proc-clause-clock g c =
-    not-back-then _ _ _ (not-back-same _ _ c.read_clock.ensures.outside.clock) (not-back-then _ _ _ c.enter.ensures.clock (not-back-same _ _ c.turn-turn.ensures.outside.clock))
+    not-back-then _ _ _ (not-back-same _ _ c.read_clock.ensures.outside.clock)
+    (not-back-then _ _ _ c.enter.ensures.clock (not-back-then _ _ _ c.turn-turn.ensures.outside.clock c.rest_if.ensures.clock))
+
+pub returns-in-Proc-clause-rest : goal.returns-in-Proc-clause-rest
+returns-in-Proc-clause-rest g c =
+    let engines = meaning g.E.Engine.stands g.E.Engine.phase g.E.Engine.memory in
+    let laws = g.met.E.Engine g.world.𝓛 g.world.𝓜 g.world.𝓡 ((λ s x. x), (λ x. x), (λ x. x), λ x. x) in
+    let turn = c.turn-turn.result in
+    let given = c.give.ensures.given in
+    let fits = fits-given engines g.E.Engine.begin g.E.Engine.at g.E.Engine.may_ask c.read_clock.new.node c.take.new.self (seat_of c.in-Proc.proc) c.take.ensures.same c.read_clock.ensures.awake
+    c.in-Proc.ensures.taken.0 (brought_in turn) c.turn-turn.ensures.given c.turn-turn.ensures.same in
+    rest-round engines g.E.Engine.begin g.E.Engine.at g.E.Engine.may_ask c.read_clock.new.node c.take.new.self (seat_of c.in-Proc.proc) c.take.ensures.same c.read_clock.ensures.awake
+    c.in-Proc.ensures.taken.0 c.give.new.self (brought_in turn) given.0 given.2.0 c.give.ensures.same c.turn-turn.ensures.same fits given.2.1 given.1
+    laws.asks_what_it_may laws.owes_its_ask laws.shows_memory laws.keeps_to_fuel laws.running_may_step
+
+pub returns-in-Proc-clause-fewer : goal.returns-in-Proc-clause-fewer
+returns-in-Proc-clause-fewer g c _ =
+    let reserved = c.reserve_turn.ensures in
+    let engines = meaning g.E.Engine.stands g.E.Engine.phase g.E.Engine.memory in
+    let laws = g.met.E.Engine g.world.𝓛 g.world.𝓜 g.world.𝓡 ((λ s x. x), (λ x. x), (λ x. x), λ x. x) in
+    let turn = c.turn-turn.result in
+    let given = c.give.ensures.given in
+    let fits = fits-given engines g.E.Engine.begin g.E.Engine.at g.E.Engine.may_ask c.read_clock.new.node c.take.new.self (seat_of c.in-Proc.proc) c.take.ensures.same c.read_clock.ensures.awake
+    c.in-Proc.ensures.taken.0 (brought_in turn) c.turn-turn.ensures.given c.turn-turn.ensures.same in
+    let gone = gone-round engines g.E.Engine.begin g.E.Engine.at g.E.Engine.may_ask c.read_clock.new.node c.take.new.self (seat_of c.in-Proc.proc) c.take.ensures.same c.read_clock.ensures.awake
+    c.in-Proc.ensures.taken.0 c.give.new.self (brought_in turn) given.0 given.2.0 c.give.ensures.same c.turn-turn.ensures.same fits given.2.1 given.1
+    laws.asks_what_it_may laws.owes_its_ask laws.shows_memory laws.keeps_to_fuel laws.running_may_step in
+    let less = fewer-proc g.E.Engine.begin g.E.Engine.at c.reserve_turn.new.self c.read_clock.new.node c.give.new.self _ _ c.read_clock.ensures.same
+    (same-then c.read_clock.new.node c.take.new.self c.give.new.self c.take.ensures.same c.give.ensures.same)
+    c.read_clock.ensures.read c.in-Proc.ensures.taken.0.going c.in-Proc.ensures.taken.0.busy gone in
+    let left = left-reserved g.E.Engine.begin g.E.Engine.at c.args.node.now c.reserve_turn.new.self reserved.same reserved.kept in
+    omega (arith, left, less)
+
+pub returns-in-Proc-clause-failed : goal.returns-in-Proc-clause-failed
+returns-in-Proc-clause-failed g c =
+    let turn = c.turn-turn.result in
+    let given = c.give.ensures.given in
+    let took = c.in-Proc.ensures.taken.0 in
+    let memory = g.E.Engine.memory c.in-Proc.proc.engine in
+    let owed : ((world_of c.take.new.self).process turn.proc.start.pid).owed ≡ option_map (request_of memory) c.in-Proc.proc.owed =
+    ap (λ (s : Start). ((world_of c.take.new.self).process s.pid).owed) c.turn-turn.ensures.same ∙ took.seated.owed in
+    let by : failures_by (world_of c.take.new.self) (deed_of (Give 0 turn.proc.start.pid turn.calls turn.proc.fuel turn.halt given.0))
+    ≡ failures_in (wanted_in (want_of turn.halt) (option_map (request_of memory) c.in-Proc.proc.owed)) turn.side =
+    recorded-fails (wanted_in (want_of turn.halt) ((world_of c.take.new.self).process turn.proc.start.pid).owed) turn.side given.0 given.1
+    ∙ ap (λ (o : Option Request). failures_in (wanted_in (want_of turn.halt) o) turn.side) owed in
+    let kept = counted-same failures_by c.args.node.now.book c.reserve_turn.new.self.book c.reserve_turn.ensures.kept.births c.reserve_turn.ensures.kept.entries in
+    let read = c.read_clock.ensures.failures in
+    let taking = counted-other failures_by c.read_clock.new.node.book c.take.new.self.book (Take 0 c.in-Proc.proc.start.pid) took.recorded.births took.recorded.entries refl in
+    let giving = counted-more failures_by c.take.new.self.book c.give.new.self.book (Give 0 turn.proc.start.pid turn.calls turn.proc.fuel turn.halt given.0) given.2.1.births given.2.1.entries in
+    let turned = c.turn-turn.ensures.outside.faults in
+    omega (arith, by, kept, read, taking, giving, turned, c.read_clock.ensures.outside.faults, c.enter.ensures.faults, c.rest_if.ensures.faults)
+
+pub returns-in-Proc-clause-waited : goal.returns-in-Proc-clause-waited
+returns-in-Proc-clause-waited g c =
+    let turn = c.turn-turn.result in
+    let given = c.give.ensures.given in
+    let took = c.in-Proc.ensures.taken.0 in
+    let memory = g.E.Engine.memory c.in-Proc.proc.engine in
+    let owed : ((world_of c.take.new.self).process turn.proc.start.pid).owed ≡ option_map (request_of memory) c.in-Proc.proc.owed =
+    ap (λ (s : Start). ((world_of c.take.new.self).process s.pid).owed) c.turn-turn.ensures.same ∙ took.seated.owed in
+    let by : waits_by (world_of c.take.new.self) (deed_of (Give 0 turn.proc.start.pid turn.calls turn.proc.fuel turn.halt given.0))
+    ≡ waits_in (wanted_in (want_of turn.halt) (option_map (request_of memory) c.in-Proc.proc.owed)) turn.side =
+    recorded-waits (wanted_in (want_of turn.halt) ((world_of c.take.new.self).process turn.proc.start.pid).owed) turn.side given.0 given.1
+    ∙ ap (λ (o : Option Request). waits_in (wanted_in (want_of turn.halt) o) turn.side) owed in
+    let kept = counted-same waits_by c.args.node.now.book c.reserve_turn.new.self.book c.reserve_turn.ensures.kept.births c.reserve_turn.ensures.kept.entries in
+    let read = c.read_clock.ensures.waits in
+    let taking = counted-other waits_by c.read_clock.new.node.book c.take.new.self.book (Take 0 c.in-Proc.proc.start.pid) took.recorded.births took.recorded.entries refl in
+    let giving = counted-more waits_by c.take.new.self.book c.give.new.self.book (Give 0 turn.proc.start.pid turn.calls turn.proc.fuel turn.halt given.0) given.2.1.births given.2.1.entries in
+    let turned = c.turn-turn.ensures.outside.waits in
+    omega (arith, by, kept, read, taking, giving, turned, c.read_clock.ensures.outside.waits, c.enter.ensures.waits, c.rest_if.ensures.waits)
 
 pub returns-in-Proc-clause-rested : goal.returns-in-Proc-clause-rested
 returns-in-Proc-clause-rested g c =
     let turn = c.turn-turn.result in
     let given = c.give.ensures.given in
-    let took = c.in-Proc.ensures.taken in
+    let took = c.in-Proc.ensures.taken.0 in
+    let pends : is_pending given.0 ≡ c.is_pending-pending.result = recorded-pends turn.side given.0 given.1 ∙ sym c.is_pending-pending.ensures in
     let kept = quiet-kept c.args.node.now.book c.reserve_turn.new.self.book c.reserve_turn.ensures.kept.births c.reserve_turn.ensures.kept.entries in
     let loud = c.read_clock.ensures.read.waking (front-some (world_of c.read_clock.new.node).ready c.in-Proc.proc.start.pid took.front) in
     let taking = quiet-other c.read_clock.new.node.book c.take.new.self.book (Take 0 c.in-Proc.proc.start.pid) took.recorded.births took.recorded.entries refl in
-    let giving = quiet-other c.take.new.self.book c.give.new.self.book (Give 0 turn.proc.start.pid turn.calls turn.proc.fuel turn.halt given.0) given.2.1.births given.2.1.entries refl in
+    let giving = quiet-more c.take.new.self.book c.give.new.self.book (Give 0 turn.proc.start.pid turn.calls turn.proc.fuel turn.halt given.0) given.2.1.births given.2.1.entries in
+    let counted : cond {A = ℕ} (is_pending given.0) 1 0 ≡ cond c.is_pending-pending.result 1 0 = ap (λ (b : Bool). cond {A = ℕ} b 1 0) pends in
+    let few = one-or-none c.is_pending-pending.result in
     let later = c.turn-turn.ensures.outside.rests in
-    (0, omega (arith, kept, loud, taking, giving), omega arith, λ _. rested-none _ _ 0 refl (omega (arith, c.read_clock.ensures.outside.rests, c.enter.ensures.rests, later)))
+    let rests = c.rest_if.ensures.rests in (
+      cond c.is_pending-pending.result 1 0,
+      omega (arith, kept, loud, taking, giving, counted),
+      few,
+      λ _. omega (arith, few, c.read_clock.ensures.outside.rests, c.enter.ensures.rests, later, rests),
+    )

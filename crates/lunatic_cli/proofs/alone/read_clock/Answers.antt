@@ -1,9 +1,11 @@
-use Rattle.std.proofs.Common.{◌≡◌, [], ◌∷◌, rules, refl, sym, ap, append-nil}
+use Rattle.std.proofs.Common.{[], ◌∷◌, rules, refl, sym, append-nil, arith}
 use Rattle.world_rules.specs.declared.entry.Entry.TheVariants.{Tick}
 use Rattle.process_table.specs.Seen.{world_of, setting_of}
 use Rattle.process_table.specs.Takes.{IsTimed}
+use Rattle.lunatic_cli.specs.Causes.{failures_by, waits_by}
 use Rattle.lunatic_cli.specs.Times.{times_of}
 use Rattle.lunatic_cli.proofs.Clocks.{between-none, between-tick, times-one}
+use Rattle.lunatic_cli.proofs.Causing.{counted-more}
 use Rattle.lunatic_cli.proofs.Entered.{takes-none}
 use Rattle.lunatic_cli.proofs.Steps.{awake-read, awake-unread}
 use Rattle.lunatic_cli.proofs.Rounds.{timed-going}
@@ -48,3 +50,15 @@ returns-clause-times g c =
 
 pub returns-clause-takes : goal.returns-clause-takes
 returns-clause-takes g c = takes-none c.args.node.now.book.entries c.tick.new.self.book.entries (Tick 0 c.tick.ensures.ticks.now ∷ []) c.tick.ensures.ticks.recorded.entries refl
+
+pub returns-clause-failures : goal.returns-clause-failures
+returns-clause-failures g c =
+    let ticks = c.tick.ensures.ticks in
+    let more = counted-more failures_by c.args.node.now.book c.tick.new.self.book (Tick 0 ticks.now) ticks.recorded.births ticks.recorded.entries in
+    omega (arith, more)
+
+pub returns-clause-waits : goal.returns-clause-waits
+returns-clause-waits g c =
+    let ticks = c.tick.ensures.ticks in
+    let more = counted-more waits_by c.args.node.now.book c.tick.new.self.book (Tick 0 ticks.now) ticks.recorded.births ticks.recorded.entries in
+    omega (arith, more)

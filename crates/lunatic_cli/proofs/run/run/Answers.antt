@@ -3,10 +3,9 @@ use Rattle.world_rules.specs.laws.LifeLaws.{run_reportable}
 use Rattle.world_rules.specs.Lives.{Setting}
 use Rattle.world_rules.specs.Told.{told}
 use Rattle.module_validator.specs.ValidModule.{ValidModule}
-use Rattle.lunatic_cli.specs.Headline.{Tellings, OneJournal}
 use Rattle.lunatic_cli.specs.Statuses.{is_stall, EndsByLast}
 use Rattle.lunatic_cli.proofs.FirstNode.{setting-valid}
-use Rattle.lunatic_cli.proofs.OneModule.{journal-of-parts}
+use Rattle.lunatic_cli.proofs.OneModule.{journal-of-first}
 use Rattle.lunatic_cli.proofs.Outsides.{falls-refl, goes-refl}
 use Rattle.lunatic_cli.proofs.Returned.{done-or-memory, unstarted-memory}
 use Rattle.lunatic_cli.proofs.LastEntries.{stall-or-idle}
@@ -43,36 +42,29 @@ returns-in-Err-clause-rests g c = falls-refl (map g.O.Outside.rests c.args.outsi
 
 pub write_report-status-requires-clause-reportable : goal.write_report-status-requires-clause-reportable
 write_report-status-requires-clause-reportable g c =
-    run_reportable _ c.run_first-journal.result c.run_first-journal.ensures.journal.journal_is_run
+    run_reportable _ c.run_first-journal.result.journal c.run_first-journal.ensures.journal.journal_is_run
 
 pub returns-clause-runs : goal.returns-clause-runs
 returns-clause-runs g c =
-    let told : Tellings = record {
-      clocks_before = map g.O.Outside.clock c.args.outsides.now.items;
-      clocks_after = map g.O.Outside.clock c.run_first-journal.new.outsides.items;
-      rests_before = map g.O.Outside.rests c.args.outsides.now.items;
-      rests_after = map g.O.Outside.rests c.run_first-journal.new.outsides.items;
-    } in
     inl (record {
       begun = refl;
-      journal = journal-of-parts c.args.options.now c.args.valid told c.run_first-journal.result
-          (subst (λ (s : Setting ValidModule). OneJournal s told c.run_first-journal.result)
-          (setting-valid c.args.options.now c.args.valid c.in-Ok.node c.in-Ok.ensures.made) c.run_first-journal.ensures.journal);
+      journal = journal-of-first c.args.options.now c.args.valid c.in-Ok.node _ _ c.run_first-journal.result.journal c.run_first-journal.result.closed.items
+          c.in-Ok.ensures.made c.run_first-journal.ensures.journal;
       writes = c.write_report-status.ensures.writes;
     })
 
 pub returns-clause-returned : goal.returns-clause-returned
 returns-clause-returned g c returns stayed =
-    let ended = subst (λ (s : Setting ValidModule). EndsByLast s (told c.run_first-journal.result) c.run_first-journal.result.entries)
+    let ended = subst (λ (s : Setting ValidModule). EndsByLast s (told c.run_first-journal.result.journal) c.run_first-journal.result.journal.entries)
     (setting-valid c.args.options.now c.args.valid c.in-Ok.node c.in-Ok.ensures.made) c.run_first-journal.ensures.ended in
-    done-or-memory c.args.options.now c.args.valid c.run_first-journal.result c.write_report-status.result _ _ _ _ returns ended
+    done-or-memory c.args.options.now c.args.valid c.run_first-journal.result.journal c.write_report-status.result _ _ _ _ returns ended
     c.write_report-status.ensures.writes c.write_report-status.ensures.unwritten stayed
 
 pub returns-clause-one_cause : goal.returns-clause-one_cause
-returns-clause-one_cause g c = stall-or-idle _ c.run_first-journal.result c.run_first-journal.ensures.ended
+returns-clause-one_cause g c = stall-or-idle _ c.run_first-journal.result.journal c.run_first-journal.ensures.ended
 
 pub returns-clause-refused : goal.returns-clause-refused
 returns-clause-refused g c = (
-  λ three. absurd ((told-ran c.write_report-status.result (reports-told _ _ c.run_first-journal.result c.write_report-status.result c.write_report-status.ensures.writes)).0 three),
+  λ three. absurd ((told-ran c.write_report-status.result (reports-told _ _ c.run_first-journal.result.journal c.write_report-status.result c.write_report-status.ensures.writes)).0 three),
   λ some. absurd (cc),
 )

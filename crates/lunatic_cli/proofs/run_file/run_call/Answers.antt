@@ -1,7 +1,8 @@
 use Rattle.std.proofs.Common.{map}
+use Rattle.lunatic_cli.specs.Headline.{tellings_of}
 use Rattle.lunatic_cli.proofs.Completions.{module_completes, judged_is_read}
 use Rattle.lunatic_cli.proofs.Outsides.{falls-refl, goes-refl}
-use Rattle.lunatic_cli.proofs.RunFile.{headline-of, refused-run, refused-unrun}
+use Rattle.lunatic_cli.proofs.RunFile.{headline-of, blank-closed, refused-run, refused-unrun}
 use Rattle.lunatic_cli.proofs.Told.{runs-read, begun-told, unbegun-refused, stalled-by, stalls-by, idled-by, idles-by, starved-by}
 use Rattle.lunatic_cli.proofs.run_file.run_call.Goals as goal
 
@@ -31,6 +32,9 @@ returns-in-Ok-clause-idles g c seven = idles-by c.args.options.now c.in-Ok.valid
 pub returns-in-Ok-clause-starved : goal.returns-in-Ok-clause-starved
 returns-in-Ok-clause-starved g c starve = starved-by c.args.options.now c.in-Ok.valid.parts _ c.run.result c.run.ensures.runs starve
 
+pub returns-in-Ok-clause-closed_blank : goal.returns-in-Ok-clause-closed_blank
+returns-in-Ok-clause-closed_blank g c blank = blank-closed c.args.options.now c.in-Ok.valid.parts _ c.run.result c.run.ensures.runs blank
+
 pub returns-in-Ok-clause-refused : goal.returns-in-Ok-clause-refused
 returns-in-Ok-clause-refused g c = refused-run c.run.result.verdict c.run.result.start c.run.result.status c.run.ensures.verdict c.run.ensures.refused
 
@@ -52,12 +56,8 @@ returns-in-Ok-clause-unread_told g c =
 
 pub returns-in-Err-clause-ends : goal.returns-in-Err-clause-ends
 returns-in-Err-clause-ends g c =
-    c.in-Err.ensures.ends c.args.options.now (record {
-      clocks_before = map g.O.Outside.clock c.args.outsides.now.items;
-      clocks_after = map g.O.Outside.clock c.args.outsides.now.items;
-      rests_before = map g.O.Outside.rests c.args.outsides.now.items;
-      rests_after = map g.O.Outside.rests c.args.outsides.now.items;
-    })
+    c.in-Err.ensures.ends c.args.options.now
+    (tellings_of g.O.Outside.clock g.O.Outside.faults g.O.Outside.waits g.O.Outside.rests c.args.outsides.now.items c.args.outsides.now.items)
 
 pub returns-in-Err-clause-refused : goal.returns-in-Err-clause-refused
 returns-in-Err-clause-refused g c =
