@@ -1,25 +1,20 @@
 //! The program `tickmonel`: makes the real store of files and standard output, calls `lunatic`, and ends with the
 //! status that it answers.
 //!
-//! Each of the sixteen workers that a run may have gets an outside of its own, with the machine's clock; no module reaches
-//! a socket yet. What the program does is `lunatic`'s contract, in the crate `lunatic_cli`. What real files, standard
-//! output and the clock hold is told by no clause.
+//! Each of the sixteen workers that a run may have gets an outside of its own, with the machine's sockets and clock. What
+//! the program does is `lunatic`'s contract, in the crate `lunatic_cli`. What real files, standard output, sockets and the
+//! clock hold is told by no clause.
 #![tactic(auto)]
 
 ghost use Rattle.std.specs.Prelude.{◌≡◌, IfOk, vec_len};
 
-mod real_files;
-mod real_out;
-mod real_time;
-
 use lunatic_cli::lunatic;
 use memory_refusal::NoMemory;
-use real_files::RealFiles;
-use real_out::RealOut;
-use real_time::RealTime;
+use real_outside::{RealFiles, RealOut, RealOutside};
 use std::alloc::Global;
 use std::env;
 use std::io::{self, ErrorKind};
+use std::net::{Net, TcpListener, TcpStream};
 use std::process::ExitCode;
 use std::rt::Env;
 use std::time::{Clock, Instant};
@@ -50,13 +45,15 @@ fn main(rt: HostRuntime) -> ExitCode {
 }
 
 /// An outside for each worker. Their clocks begin together.
-fn all_outsides<R: Clock + AllocGlobal>(rt: &R) -> Result<Vec<RealTime<'_, R>>, NoMemory>
+fn all_outsides<R: Clock + Net<Listener = TcpListener, Stream = TcpStream> + AllocGlobal>(
+    rt: &R,
+) -> Result<Vec<RealOutside<'_, R>>, NoMemory>
     ensures { IfOk result (λ outsides. vec_len outsides ≡ 16) }
 {
     let began = Instant::now(rt).ok();
     let mut outsides = Vec::new(rt.alloc());
     for _worker in 0..WORKERS {
-        outsides.push(RealTime::new(rt, began))?;
+        outsides.push(RealOutside::new(rt, began))?;
     }
     Ok(outsides)
 }
