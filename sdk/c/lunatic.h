@@ -32,6 +32,14 @@ enum {
   LUNATIC_NO_MEMORY = 12,
 };
 
+/* What `lunatic_tcp_bind`, `lunatic_tcp_accept` and `lunatic_tcp_connect` answer; `lunatic_tcp_read` and
+ * `lunatic_tcp_write` answer one of the first two. */
+enum {
+  LUNATIC_OK = 0,
+  LUNATIC_FAILED = 1,   /* the machine refused */
+  LUNATIC_TOO_MANY = 2, /* 16 listeners, or 256 streams, are the process's already */
+};
+
 /* Wait without end. */
 #define LUNATIC_FOREVER INT64_C(-1)
 
@@ -59,7 +67,16 @@ uint64_t lunatic_data_size(void);
 LUNATIC_IMPORT("lunatic::message", "get_tag")
 int64_t lunatic_get_tag(void);
 
-/* Sends the scratch message to a process. */
+/* Moves a stream of this process into the next place of the scratch message, and answers the place, from 0. A message
+ * takes 64. */
+LUNATIC_IMPORT("lunatic::message", "push_tcp_stream")
+uint64_t lunatic_push_tcp_stream(uint64_t stream);
+
+/* Moves the stream at this place of the scratch message to this process, and answers its number. */
+LUNATIC_IMPORT("lunatic::message", "take_tcp_stream")
+uint64_t lunatic_take_tcp_stream(uint64_t place);
+
+/* Sends the scratch message to a process, with the streams in it. */
 LUNATIC_IMPORT("lunatic::message", "send")
 uint32_t lunatic_send(uint64_t pid);
 
@@ -75,6 +92,44 @@ uint64_t lunatic_process_id(void);
 /* Sleeps so many milliseconds; not at all where `ms` is 0 or negative. */
 LUNATIC_IMPORT("lunatic::process", "sleep_ms")
 void lunatic_sleep_ms(int64_t ms);
+
+/* Listens at a port of an IPv4 address, whose highest byte is the first octet; at port 0 the machine chooses one. With
+ * the answer LUNATIC_OK the number of the listener is in `listener`. */
+LUNATIC_IMPORT("lunatic::networking", "tcp_bind")
+uint32_t lunatic_tcp_bind(uint32_t ip, uint32_t port, uint64_t *listener);
+
+/* The port of a listener. */
+LUNATIC_IMPORT("lunatic::networking", "tcp_local_port")
+uint32_t lunatic_tcp_local_port(uint64_t listener);
+
+/* Waits until somebody connects. With the answer LUNATIC_OK the number of the stream is in `stream`. */
+LUNATIC_IMPORT("lunatic::networking", "tcp_accept")
+uint32_t lunatic_tcp_accept(uint64_t listener, uint64_t *stream);
+
+/* Connects to a port of an IPv4 address. With the answer LUNATIC_OK the number of the stream is in `stream`. */
+LUNATIC_IMPORT("lunatic::networking", "tcp_connect")
+uint32_t lunatic_tcp_connect(uint32_t ip, uint32_t port, uint64_t *stream);
+
+/* Waits for bytes, and reads as many as have come, up to `len` and to 65,536. With the answer LUNATIC_OK their count is in
+ * `count`; 0 of a positive `len` is the end of the stream. */
+LUNATIC_IMPORT("lunatic::networking", "tcp_read")
+uint32_t lunatic_tcp_read(uint64_t stream, void *into, uint32_t len, uint32_t *count);
+
+/* Waits until bytes can be written, and writes the first of them, at most 65,536. With the answer LUNATIC_OK their count is
+ * in `count`. */
+LUNATIC_IMPORT("lunatic::networking", "tcp_write")
+uint32_t lunatic_tcp_write(uint64_t stream, const void *bytes, uint32_t len, uint32_t *count);
+
+/* Closes a stream. */
+LUNATIC_IMPORT("lunatic::networking", "drop_tcp_stream")
+void lunatic_drop_tcp_stream(uint64_t stream);
+
+/* Closes a listener. */
+LUNATIC_IMPORT("lunatic::networking", "drop_tcp_listener")
+void lunatic_drop_tcp_listener(uint64_t listener);
+
+/* The address 127.0.0.1. */
+#define LUNATIC_LOOPBACK UINT32_C(0x7f000001)
 
 /* Puts bytes into the output of the run. */
 LUNATIC_IMPORT("profile", "print")
