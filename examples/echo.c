@@ -15,20 +15,11 @@
  */
 #include "lunatic.h"
 
-/* Writes all of the bytes, however few go at once. Answers whether the other side took them. */
-static int write_all(uint64_t stream, const char *bytes, uint32_t len) {
-  uint32_t count = 0;
-  for (uint32_t at = 0; at < len; at += count)
-    if (lunatic_tcp_write(stream, bytes + at, len - at, &count) != LUNATIC_OK || count == 0)
-      return 0;
-  return 1;
-}
-
 static void serve(uint64_t stream) {
   static char bytes[512]; /* a read costs its whole area in traffic */
   uint32_t count = 0;
   while (lunatic_tcp_read(stream, bytes, sizeof bytes, &count) == LUNATIC_OK && count != 0)
-    if (!write_all(stream, bytes, count))
+    if (lunatic_write_all(stream, bytes, count) != LUNATIC_OK)
       break;
   lunatic_drop_tcp_stream(stream);
 }

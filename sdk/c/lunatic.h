@@ -1,9 +1,10 @@
 /* The host calls of Tickmonel that are served today, for guests in C.
  *
  * Each call, its answers and its faults are described in docs/WORLD.md. A fault ends the process: its end line then reads
- * `host FAULT`. Compile with clang for wasm32, for example
+ * `host FAULT`. Behind the calls stand small helpers that are made of them. Compile with clang for wasm32 (Debian's
+ * clang-14 and lld-14), for example by
  *
- *     clang --target=wasm32 -mcpu=mvp -O2 -nostdlib -Wl,--no-entry -I sdk/c -o guest.wasm guest.c
+ *     make -f sdk/c/guest.mk guest.wasm
  *
  * and export the entry function with LUNATIC_START. Modules have integers alone: no float and no double.
  */
@@ -134,5 +135,71 @@ void lunatic_drop_tcp_listener(uint64_t listener);
 /* Puts bytes into the output of the run. */
 LUNATIC_IMPORT("profile", "print")
 void lunatic_print(const void *bytes, uint32_t len);
+
+/* HELPERS, made of the calls above. */
+
+/* How many bytes a text has before its final 0. */
+static inline uint32_t lunatic_length(const char *text) {
+  uint32_t len = 0;
+  while (text[len] != 0)
+    len++;
+  return len;
+}
+
+/* Puts a text into the output of the run. */
+static inline void lunatic_print_text(const char *text) { lunatic_print(text, lunatic_length(text)); }
+
+/* Puts a number into the output of the run, in decimal digits. */
+static inline void lunatic_print_number(uint64_t number) {
+  char digits[20]; /* 2^64 - 1 has twenty */
+  uint32_t at = sizeof digits;
+  do {
+    digits[--at] = (char)('0' + number % 10);
+    number /= 10;
+  } while (number != 0);
+  lunatic_print(digits + at, (uint32_t)sizeof digits - at);
+}
+
+/* Sends bytes as one message, and answers as `lunatic_send` does. A message takes 1,048,576 bytes: of more, the first are
+ * sent. The streams of an earlier scratch message are closed. */
+static inline uint32_t lunatic_send_bytes(uint64_t pid, int64_t tag, const void *bytes, uint32_t len) {
+  lunatic_create_data(tag, len);
+  lunatic_write_data(bytes, len);
+  return lunatic_send(pid);
+}
+
+/* Waits up to `ms` milliseconds for a message, or for one with this tag; answers as `lunatic_receive` does. */
+static inline uint32_t lunatic_receive_any(int64_t ms) { return lunatic_receive(0, 0, ms); }
+
+static inline uint32_t lunatic_receive_tag(int64_t tag, int64_t ms) { return lunatic_receive(&tag, 1, ms); }
+
+/* Copies the bytes of the scratch message from its first on, up to `len`, and answers how many. */
+static inline uint32_t lunatic_message_bytes(void *into, uint32_t len) {
+  lunatic_seek_data(0);
+  return lunatic_read_data(into, len);
+}
+
+/* Reads until `len` bytes are there or the stream is at its end. With the answer LUNATIC_OK their count is in `count`: less
+ * than `len` at the end of the stream. */
+static inline uint32_t lunatic_read_all(uint64_t stream, void *into, uint32_t len, uint32_t *count) {
+  *count = 0;
+  while (*count < len) {
+    uint32_t more = 0;
+    if (lunatic_tcp_read(stream, (char *)into + *count, len - *count, &more) != LUNATIC_OK)
+      return LUNATIC_FAILED;
+    if (more == 0)
+      break;
+    *count += more;
+  }
+  return LUNATIC_OK;
+}
+
+/* Writes all of the bytes, however few go at once. LUNATIC_FAILED where the stream failed or took none of them. */
+static inline uint32_t lunatic_write_all(uint64_t stream, const void *bytes, uint32_t len) {
+  for (uint32_t at = 0, count = 0; at < len; at += count)
+    if (lunatic_tcp_write(stream, (const char *)bytes + at, len - at, &count) != LUNATIC_OK || count == 0)
+      return LUNATIC_FAILED;
+  return LUNATIC_OK;
+}
 
 #endif
