@@ -1,6 +1,7 @@
 #!/usr/bin/env bash
 # Trips a second of 64 bytes over one connection of the loopback: the guest examples/echo.wasm on the program beside an echo server
-# in C over poll, with the same client (gcc). Usage: bench/network.sh [TRIPS]
+# in C over poll and, where Erlang is installed, one in Erlang with one scheduler, with the same client (gcc).
+# Usage: bench/network.sh [TRIPS]
 set -e
 top="$(cd "$(dirname "$0")/.." && pwd)"
 trips="${1:-20000}"
@@ -21,4 +22,13 @@ ours="$("$work/client" 7070 "$trips")"
 end_server 7070
 wait
 cat "$work/report"
-echo "C over poll: $plain trips a second; tickmonel: $ours; ratio $(awk "BEGIN { printf \"%.2f\", $ours / $plain }")"
+ratio() { awk "BEGIN { printf \"%.2f\", $ours / $1 }"; }
+echo "C over poll: $plain trips a second; tickmonel: $ours; ratio $(ratio "$plain")"
+if command -v erlc > /dev/null; then
+    erlc -o "$work" "$top/bench/network/echo.erl"
+    erl +S 1 -noshell -pa "$work" -run echo main 7272 &
+    erlang="$("$work/client" 7272 "$trips")"
+    end_server 7272
+    wait
+    echo "Erlang: $erlang trips a second; ratio $(ratio "$erlang")"
+fi

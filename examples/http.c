@@ -9,14 +9,15 @@
  *
  * `/` answers a greeting, `/stop` ends the server after its answer, any other path is 404. What is no request is 400, another
  * method than GET 405, and a head of more than 2,048 bytes 431; a peer that says nothing, ends early or resets is let go. After
- * each answer the connection is closed. For each answer it prints a line, as `200 /`.
+ * each answer the connection is closed. For each answer it prints a line, as `200 /`. With `--entry at_8081`, `at_8082` or
+ * `at_8083` it serves at that port.
  *
  * A connection that stays open and silent keeps the others waiting, up to the idle limit of the run: one process serves one
  * connection at a time.
  */
 #include "lunatic.h"
 
-enum { HEAD = 2048, PORT = 8080 };
+enum { HEAD = 2048 };
 
 static char head[HEAD];
 
@@ -110,10 +111,11 @@ static int serve(uint64_t stream) {
   return 1;
 }
 
-LUNATIC_START void start(void) {
+/* Serves at this port until `/stop` is asked for. */
+static void serve_at(uint32_t port) {
   uint64_t listener = 0;
-  if (lunatic_tcp_bind(LUNATIC_LOOPBACK, PORT, &listener) != LUNATIC_OK) {
-    lunatic_print_text("port 8080 is taken\n");
+  if (lunatic_tcp_bind(LUNATIC_LOOPBACK, port, &listener) != LUNATIC_OK) {
+    lunatic_print_text("the port is taken\n");
     __builtin_trap();
   }
   for (int goes_on = 1; goes_on;) {
@@ -125,3 +127,12 @@ LUNATIC_START void start(void) {
   }
   lunatic_drop_tcp_listener(listener);
 }
+
+LUNATIC_START void start(void) { serve_at(8080); }
+
+/* Entries for more servers beside the first, as behind a balancer. */
+LUNATIC_ENTRY("at_8081") void at_8081(void) { serve_at(8081); }
+
+LUNATIC_ENTRY("at_8082") void at_8082(void) { serve_at(8082); }
+
+LUNATIC_ENTRY("at_8083") void at_8083(void) { serve_at(8083); }

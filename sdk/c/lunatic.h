@@ -18,6 +18,9 @@
 /* Before the definition of the entry function: LUNATIC_START void start(void) { .. } */
 #define LUNATIC_START __attribute__((export_name("_start")))
 
+/* The same for a function that is entered by another name, as with `--entry NAME`. */
+#define LUNATIC_ENTRY(name) __attribute__((export_name(name)))
+
 /* What `lunatic_receive` answers. */
 enum {
   LUNATIC_MESSAGE = 0,      /* a message is in the scratch area, to be read from its first byte */
