@@ -4,16 +4,18 @@ ghost use Rattle.std.specs.Cmp.Lexicographic.{slice_cmp};
 ghost use Rattle.std.specs.FinMap as map;
 ghost use Rattle.name_registry.specs.Names.{unless};
 
+use crate::counts::{one_less, one_more};
 use memory_refusal::NoMemory;
 use std::alloc::Global;
 use std::collections::BTreeMap;
 use std::marker::Model;
 
-/// Process numbers by name.
+/// Process numbers by name, and how many names each process has.
 #[derive(Drop)]
 pub struct Registry {
     alloc: Global,
     numbers: BTreeMap<Vec<u8>, u64>,
+    counts: BTreeMap<u64, u64>,
 }
 
 impl Model for Registry {
@@ -24,6 +26,7 @@ impl Model for Registry {
     ghost use Rattle.std.specs.Coded.{coded_ℕ, coded_list};
     ghost use Rattle.std.specs.BTreeMap.{IsOrdered};
     ghost use Rattle.name_registry.specs.Names.{Names, named, name_cmp};
+    ghost use Rattle.name_registry.specs.Counts.{AreCounts};
 
     ghost Value = { Names };
 
@@ -31,7 +34,7 @@ impl Model for Registry {
 
     ghost view = { λ a. map.from_entries (named a.numbers.entries) };
 
-    ghost invariant = { λ a. IsOrdered name_cmp a.numbers };
+    ghost invariant = { λ a. IsOrdered name_cmp a.numbers × AreCounts a.counts a.numbers.entries };
 }
 
 impl Registry {
@@ -42,6 +45,7 @@ impl Registry {
         Registry {
             alloc,
             numbers: BTreeMap::new(alloc),
+            counts: BTreeMap::new(alloc),
         }
     }
 
@@ -54,8 +58,19 @@ impl Registry {
         ensures err { OnErr result (self.new ≡ self.old) }
     {
         let name = Vec::from_slice(self.alloc, name)?;
-        self.numbers.insert(name, pid)?;
-        Ok(())
+        // A map's length is below 2^63, and no count is above it.
+        let _ = self.numbers.len();
+        one_more(&mut self.counts, pid)?;
+        match self.numbers.insert(name, pid) {
+            Ok(earlier) => {
+                one_less(&mut self.counts, earlier);
+                Ok(())
+            }
+            Err(refused) => {
+                one_less(&mut self.counts, Some(pid));
+                Err(NoMemory::from(refused))
+            }
+        }
     }
 
     /// The number of the process under a name; None exactly where no process stands under it.
@@ -69,13 +84,19 @@ impl Registry {
     pub fn remove(&mut self, name: &[u8])
         ensures { self.new ≡ map.remove self.old name.now }
     {
-        self.numbers.remove(name);
+        let number = self.numbers.remove(name);
+        one_less(&mut self.counts, number);
     }
 
     /// Takes out the names of a process, and no others.
     pub fn remove_process(&mut self, pid: u64)
         ensures { (name : List ℕ) → map.get self.new name ≡ unless pid (map.get self.old name) }
     {
-        self.numbers.retain(|_, number| *number != pid);
+        match self.counts.remove(&pid) {
+            Some(_) => {
+                self.numbers.retain(|_, number| *number != pid);
+            }
+            None => {}
+        }
     }
 }
