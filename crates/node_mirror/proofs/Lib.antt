@@ -26,3 +26,4 @@ pub mod Struck
 pub mod OwnEnds
 pub mod Births
 pub mod Firsts
+pub mod Clocks

@@ -16,6 +16,7 @@ mod linking;
 mod mailing;
 mod recording;
 mod telling;
+mod ticking;
 
 pub use allowing::a_give_is_allowed;
 pub use answering::{a_lateness_mirrors, a_reply_mirrors, a_sleep_mirrors};
@@ -27,7 +28,8 @@ pub use ending::{
 pub use giving::{
     a_pending_give_mirrors, a_slice_mirrors, an_answer_mirrors, an_ask_mirrors, an_opening_mirrors,
 };
-pub use linking::{falls_are_members, nets_stay};
+pub use linking::{falls_are_members, nets_stay, signals_follow};
 pub use mailing::{a_delivery_mirrors, a_sending_mirrors, a_wait_mirrors, an_arrival_mirrors};
 pub use recording::{a_take_stands, an_entry_stands, more_room_stands};
 pub use telling::{replies_fit, waits_are_answered};
+pub use ticking::{a_time_mirrors, latenesses_follow};

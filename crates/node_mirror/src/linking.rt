@@ -1,4 +1,4 @@
-ghost use Rattle.std.specs.Prelude.{◌≡◌, ◌≢◌, ◌∷◌, ℕ, List, Some, None, Bool, true, false, map, if◌then◌else◌};
+ghost use Rattle.std.specs.Prelude.{◌≡◌, ◌≢◌, ◌∷◌, ◌++◌, ℕ, List, [], Some, None, Bool, true, false, map, if◌then◌else◌};
 ghost use Rattle.std.specs.FinMap.{insert, remove};
 ghost use Rattle.host_port.specs.declared.start.Start.{Start};
 ghost use Rattle.link_signals.specs.Links.{Processes, Tags, ends};
@@ -6,8 +6,10 @@ ghost use Rattle.link_signals.specs.Fall.{IsFall};
 ghost use Rattle.link_signals.specs.Fall.{signals_of as signals_in};
 ghost use Rattle.world_rules.specs.declared.halt.End.{End};
 ghost use Rattle.world_rules.specs.declared.halt.End.TheVariants as EndIs;
-ghost use Rattle.world_rules.specs.Links.{fallen_with, signals_of, with_link};
+ghost use Rattle.world_rules.specs.Links.{Told, all_told, fallen_with, signals_of, with_link};
+ghost use Rattle.world_rules.specs.Mail.{Signal};
 ghost use Rattle.world_rules.specs.Part.{is_among};
+ghost use Rattle.world_rules.specs.Receive.{arrived};
 ghost use Rattle.world_rules.specs.Sound.{AreInOrder};
 ghost use Rattle.world_rules.specs.Spawn.{next_number};
 ghost use Rattle.world_rules.specs.World.{World, Ready, is_live, fresh_process, with_process};
@@ -55,4 +57,10 @@ pub fn nets_stay()
     ensures born { (w : World) (start : Start) (processes : Processes) (tags : Tags) → IsNet w processes tags →
         IsNet (record (with_process w (next_number w) (fresh_process start Ready)) { numbers_drawn = next_number w })
         (insert processes (next_number w) true) tags }
+{}
+
+/// The signals of a fall are put one after another, in their order. It computes nothing.
+pub fn signals_follow()
+    ensures { (w : World) (signals : List Told) (told : Told) →
+        all_told w (signals ++ told ∷ []) ≡ arrived (all_told w signals) told.to (Signal told.tag) }
 {}
