@@ -4,14 +4,15 @@ use Rattle.std.specs.declared.cmp.Ordering.{Ordering}
 use Rattle.std.specs.declared.cmp.Ordering.TheVariants.{Less, Equal, Greater}
 use Rattle.std.specs.Ordering.{nat_cmp, is_eq, eq_by_cmp, ordering_then}
 use Rattle.std.specs.Cmp.{nat_cmp_total}
-use Rattle.std.specs.FinMap.{get, insert, remove, get-insert, get-remove}
+use Rattle.std.specs.FinMap.{empty, get, insert, remove, get-empty, get-insert, get-remove}
 use Rattle.std.proofs.Common.{sym, ◌∙◌, ap, inl, inr, arith}
 use Rattle.std.proofs.lemmas.Bool.Decides.{leb_tells}
 use Rattle.host_port.specs.declared.start.Start.{Start}
 use Rattle.link_signals.specs.Links.{Processes, Tags, ends, pair_cmp}
 use Rattle.link_signals.proofs.Pairs.{pair_total}
 use Rattle.world_rules.specs.Part.{is_among}
-use Rattle.world_rules.specs.World.{World, Process, Ready, is_live, fresh_process, put, with_process}
+use Rattle.world_rules.specs.declared.life.Birth.{Birth}
+use Rattle.world_rules.specs.World.{World, Process, Unborn, Ready, is_live, fresh_process, no_start, first_start, first_world, put, with_process}
 use Rattle.world_rules.specs.Links.{with_link}
 use Rattle.world_rules.specs.Sound.{AreInOrder}
 use Rattle.world_rules.specs.Spawn.{next_number}
@@ -136,3 +137,14 @@ net_born w start processes tags net = record {
   minds = λ q. net_put w (next_number w) (fresh_process start Ready) processes tags net refl q;
   links = net.links;
 }
+
+-- of the run's first world: process 1 alone, dying with links, and no link
+pub net_first : (births : List Birth) → IsNet (first_world births) (insert empty 1 true) empty
+net_first births = record {
+  minds = λ q. put_get empty 1 true q ∙ by q (nat_eq q 1);
+  links = λ a b. get-empty pair_cmp (a, b);
+}
+  where
+    by : (q : ℕ) (t : Bool) → (if t then Some true else get (empty {R = nat_cmp}) q) ≡ minded (if t then fresh_process (first_start births) Ready else fresh_process no_start Unborn)
+    by q true = refl
+    by q false = get-empty nat_cmp q

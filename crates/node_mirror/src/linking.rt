@@ -1,18 +1,19 @@
 ghost use Rattle.std.specs.Prelude.{◌≡◌, ◌≢◌, ◌∷◌, ◌++◌, ℕ, List, [], Some, None, Bool, true, false, map, if◌then◌else◌};
-ghost use Rattle.std.specs.FinMap.{insert, remove};
+ghost use Rattle.std.specs.FinMap.{empty, insert, remove};
 ghost use Rattle.host_port.specs.declared.start.Start.{Start};
 ghost use Rattle.link_signals.specs.Links.{Processes, Tags, ends};
 ghost use Rattle.link_signals.specs.Fall.{IsFall};
 ghost use Rattle.link_signals.specs.Fall.{signals_of as signals_in};
 ghost use Rattle.world_rules.specs.declared.halt.End.{End};
 ghost use Rattle.world_rules.specs.declared.halt.End.TheVariants as EndIs;
+ghost use Rattle.world_rules.specs.declared.life.Birth.{Birth};
 ghost use Rattle.world_rules.specs.Links.{Told, all_told, fallen_with, signals_of, with_link};
 ghost use Rattle.world_rules.specs.Mail.{Signal};
 ghost use Rattle.world_rules.specs.Part.{is_among};
 ghost use Rattle.world_rules.specs.Receive.{arrived};
 ghost use Rattle.world_rules.specs.Sound.{AreInOrder};
 ghost use Rattle.world_rules.specs.Spawn.{next_number};
-ghost use Rattle.world_rules.specs.World.{World, Ready, is_live, fresh_process, with_process};
+ghost use Rattle.world_rules.specs.World.{World, Ready, is_live, first_world, fresh_process, with_process};
 ghost use Rattle.node_mirror.specs.Nets.{IsNet, LeavesNet, told_of};
 
 use world_rules::falls_are_least;
@@ -34,7 +35,7 @@ pub fn falls_are_members()
 
 /// How the store of links keeps having those of the world: where no process becomes live or ends, and none changes
 /// whether it dies with links; where some end or are doomed; with a link, or without one; where a process changes
-/// whether it dies with links; and with a child.
+/// whether it dies with links; and with a child. The run begins with process 1 alone, dying with links, and no link.
 pub fn nets_stay()
     ensures stays { (w after : World) (processes : Processes) (tags : Tags) → IsNet w processes tags →
         after.links ≡ w.links →
@@ -57,6 +58,7 @@ pub fn nets_stay()
     ensures born { (w : World) (start : Start) (processes : Processes) (tags : Tags) → IsNet w processes tags →
         IsNet (record (with_process w (next_number w) (fresh_process start Ready)) { numbers_drawn = next_number w })
         (insert processes (next_number w) true) tags }
+    ensures first { (births : List Birth) → IsNet (first_world births) (insert empty 1 true) empty }
 {}
 
 /// The signals of a fall are put one after another, in their order. It computes nothing.
