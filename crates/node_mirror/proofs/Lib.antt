@@ -27,3 +27,4 @@ pub mod OwnEnds
 pub mod Births
 pub mod Firsts
 pub mod Clocks
+pub mod Timed

@@ -32,4 +32,4 @@ pub use linking::{falls_are_members, nets_stay, signals_follow};
 pub use mailing::{a_delivery_mirrors, a_sending_mirrors, a_wait_mirrors, an_arrival_mirrors};
 pub use recording::{a_take_stands, an_entry_stands, more_room_stands};
 pub use telling::{replies_fit, waits_are_answered};
-pub use ticking::{a_time_mirrors, latenesses_follow};
+pub use ticking::{a_time_mirrors, deadlines_tell, latenesses_follow};

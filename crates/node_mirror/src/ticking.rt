@@ -1,7 +1,7 @@
-ghost use Rattle.std.specs.Prelude.{◌≡◌, ◌++◌, ◌∷◌, ℕ, List, []};
+ghost use Rattle.std.specs.Prelude.{◌≡◌, ◌++◌, ◌∷◌, ◌<◌, ℕ, List, [], Some, None, length};
 ghost use Rattle.world_rules.specs.declared.life.Ended.{Ended as EndMemory};
 ghost use Rattle.world_rules.specs.Lives.{Setting};
-ghost use Rattle.world_rules.specs.Time.{at_time, timed_out, all_timed_out, due_processes, ticked};
+ghost use Rattle.world_rules.specs.Time.{at_time, timed_out, all_timed_out, due_processes, ticked, timed_processes};
 ghost use Rattle.world_rules.specs.World.{World};
 ghost use Rattle.node_state.specs.Posts.{time_at};
 ghost use Rattle.node_state.specs.Seats.{meaning};
@@ -25,4 +25,14 @@ pub fn latenesses_follow()
         ≡ timed_out ((all_timed_out w pids).process pid).stage (all_timed_out w pids) pid }
     ensures all { (w : World) (now : ℕ) →
         ticked w now ≡ all_timed_out (at_time now w) (due_processes (at_time now w)) }
+{}
+
+/// Where no number has a deadline, nobody waits with one; where some number has one, somebody does.
+pub fn deadlines_tell<E: Engine>()
+    ensures none { (setting : Setting E.Program) (w : World) (held : Held E) (ends : List EndMemory) →
+        Mirrors (meaning E.stands E.phase E.memory) setting w held ends →
+        ((pid : ℕ) → held.deadlines pid ≡ None) → timed_processes w ≡ [] }
+    ensures some { (setting : Setting E.Program) (w : World) (held : Held E) (ends : List EndMemory) (pid d : ℕ) →
+        Mirrors (meaning E.stands E.phase E.memory) setting w held ends →
+        held.deadlines pid ≡ Some d → 0 < length (timed_processes w) }
 {}
