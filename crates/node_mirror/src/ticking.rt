@@ -17,8 +17,8 @@ pub fn a_time_mirrors<E: Engine>()
         (record held { time = time_at held.time now }) ends }
 {}
 
-/// A Tick sets the time; then the waits whose deadline has come are over one after another, by rising number: who is due
-/// is read in the world before the first of them. It computes nothing.
+/// A Tick sets the time; then the waits whose deadline has come are over one after another, by rising number: who is
+/// due is read in the world before the first of them. It computes nothing.
 pub fn latenesses_follow()
     ensures next { (w : World) (pids : List ℕ) (pid : ℕ) →
         all_timed_out w (pids ++ pid ∷ [])
