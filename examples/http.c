@@ -9,8 +9,7 @@
  *
  * `/` answers a greeting, `/stop` ends the server after its answer, any other path is 404. What is no request is 400, another
  * method than GET 405, and a head of more than 2,048 bytes 431; a peer that says nothing, ends early or resets is let go. After
- * each answer the connection is closed. For each answer it prints a line, as `200 /`. With `--entry at_8081`, `at_8082` or
- * `at_8083` it serves at that port.
+ * each answer the connection is closed. For each answer it prints a line, as `200 /`.
  *
  * A connection that stays open and silent keeps the others waiting, up to the idle limit of the run: one process serves one
  * connection at a time.

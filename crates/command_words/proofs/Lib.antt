@@ -1,0 +1,12 @@
+pub mod Rules
+pub mod WordKinds
+pub mod FoundRows
+pub mod Tracks
+pub mod Walks
+pub mod WordTurns
+pub mod Parses
+pub mod GrownCommand
+pub mod NumberTexts
+pub mod OptionValues
+pub mod Sounds
+pub mod Askings
