@@ -1,6 +1,6 @@
 -- The numbers whose deadline is at most a time: in a list of entries, and in the map of the list.
 use Rattle.std.proofs.Common.{◌≡◌, ℕ, suc, ◌+◌, ◌<◌, ◌≤◌, min, Bool, true, false, cond, not, IsTrue, ◌↔◌, eqb, leb}
-use Rattle.std.proofs.Common.{List, [], ◌∷◌, ◌++◌, length, get_or, take, map, Option, Some, None, MatchOption, refl}
+use Rattle.std.proofs.Common.{List, [], ◌∷◌, ◌++◌, length, get_or, set, take, map, Option, Some, None, MatchOption, refl}
 use Rattle.std.proofs.Common.{ap, sym, ◌∙◌, subst, arith}
 use Rattle.std.specs.Option.{is_some, IsSome, IsSomeAnd}
 use Rattle.std.specs.List.{filter, All, Contains}
@@ -8,11 +8,11 @@ use Rattle.std.specs.Ordering.{nat_cmp}
 use Rattle.std.specs.Cmp.{nat_cmp_total}
 use Rattle.std.specs.FinMap.{FinMap, empty, insert, len-empty, len-insert, entries, find, get, len, len-entries}
 use Rattle.std.specs.FinMap.{get-entries, get-empty, empty_of_len}
-use Rattle.std.proofs.lemmas.List.Elements.{All-nil, All-cons, All-filter, All-map, All-contains, All-push}
+use Rattle.std.proofs.lemmas.List.Elements.{All-nil, All-cons, All-filter, All-map, All-contains, All-push, All-set, All-same}
 use Rattle.std.proofs.lemmas.List.Elements.{Contains-push, Contains-append_left, filter_more, filter_passes}
 use Rattle.std.proofs.lemmas.List.{append-nil, map-append}
 use Rattle.std.proofs.lemmas.Bool.Decides.{nat_tests}
-use Rattle.run_queue.specs.Schedule.{IsDue, IsLeastDue, IsLeastOf, due_numbers, lesser_of}
+use Rattle.run_queue.specs.Schedule.{IsDue, IsLeastDue, IsLeastOf, NoneBefore, due_numbers, lesser_of}
 use Rattle.run_queue.proofs.Entries.{map_of, get-map_of, Once, once_head, ties}
 
 -- an entry is what the look-up of its number finds
@@ -106,6 +106,46 @@ none_due es now none p due =
     let at = subst (λ xs. Contains xs p) none (due_contained es now p due) in
     absurd (omega (arith, at.1))
 
+-- no number is due before a time that no deadline is before
+early_numbers : (es : List (ℕ × ℕ)) (earliest now : ℕ) → now < earliest → NoneBefore earliest es
+    → due_numbers now es ≡ []
+early_numbers [] earliest now early before = refl
+early_numbers (e ∷ es) earliest now early before =
+    let head : earliest ≤ e.1 = before 0 (0, 0) (omega arith) in
+    let late : leb e.1 now ≡ false = grind (arith, nat_tests) in
+    ap (λ b. map (λ (x : ℕ × ℕ). x.0) (cond b (e ∷ filter (λ (x : ℕ × ℕ). leb x.1 now) es)
+    (filter (λ (x : ℕ × ℕ). leb x.1 now) es))) late
+    ∙ early_numbers es earliest now early (λ k d lt. before (suc k) d (omega (arith, lt)))
+
+pub none_early : (es : List (ℕ × ℕ)) (earliest now : ℕ) → now < earliest → NoneBefore earliest es
+    → (p : ℕ) → IsDue (map_of es) now p → ⊥
+none_early es earliest now early before = none_due es now (early_numbers es earliest now early before)
+
+-- the same of no entries, and after a write over an entry, a push, and without some entries
+pub before_none : (es : List (ℕ × ℕ)) (earliest : ℕ) → es ≡ [] → NoneBefore earliest es
+before_none es earliest none = All-same (λ (e : ℕ × ℕ). earliest ≤ e.1) es [] none (All-nil _)
+
+earlier : (es : List (ℕ × ℕ)) (earliest at least : ℕ) → least ≡ min earliest at → NoneBefore earliest es
+    → NoneBefore least es
+earlier es earliest at least is before k d lt = let le = before k d lt in omega (arith, is, le)
+
+pub before_set : (es : List (ℕ × ℕ)) (earliest i pid at least : ℕ) → least ≡ min earliest at → NoneBefore earliest es
+    → NoneBefore least (set es i (pid, at))
+before_set es earliest i pid at least is before =
+    All-set (λ (e : ℕ × ℕ). least ≤ e.1) es i (pid, at) (omega (arith, is)) (earlier es earliest at least is before)
+
+pub before_push : (es more : List (ℕ × ℕ)) (earliest pid at least : ℕ) → least ≡ min earliest at
+    → more ≡ es ++ (pid, at) ∷ [] → NoneBefore earliest es → NoneBefore least more
+before_push es more earliest pid at least is grown before =
+    All-same (λ (e : ℕ × ℕ). least ≤ e.1) more (es ++ (pid, at) ∷ []) grown
+    (All-push (λ (e : ℕ × ℕ). least ≤ e.1) es (pid, at) (earlier es earliest at least is before) (omega (arith, is)))
+
+pub before_filter : (es fewer : List (ℕ × ℕ)) (keep : ℕ × ℕ → Bool) (earliest : ℕ) → fewer ≡ filter keep es
+    → NoneBefore earliest es → NoneBefore earliest fewer
+before_filter es fewer keep earliest is before =
+    All-same (λ (e : ℕ × ℕ). earliest ≤ e.1) fewer (filter keep es) is
+    (All-filter keep (λ (e : ℕ × ℕ). earliest ≤ e.1) es before)
+
 least_due : (es : List (ℕ × ℕ)) (now pid : ℕ) → Once es → Contains (due_numbers now es) pid
     → All (λ other. pid ≤ other) (due_numbers now es) → IsLeastDue (map_of es) now pid
 least_due es now pid once there all = record {
@@ -118,6 +158,14 @@ pub due_from_least : (es : List (ℕ × ℕ)) (now : ℕ) (least : Option ℕ) �
     → MatchOption least ((pid : ℕ) → IsDue (map_of es) now pid → ⊥) (IsLeastDue (map_of es) now)
 due_from_least es now None once is = none_due es now is
 due_from_least es now (Some pid) once is = least_due es now pid once is.0 is.1
+
+-- by the list as it was seen, and the map as it is called
+pub due_seen : (m : FinMap nat_cmp ℕ) (es seen : List (ℕ × ℕ)) (now : ℕ) (least : Option ℕ) → map_of es ≡ m → seen ≡ es
+    → Once es → IsLeastOf least (due_numbers now seen)
+    → MatchOption least ((pid : ℕ) → IsDue m now pid → ⊥) (IsLeastDue m now)
+due_seen m es seen now least named same once is =
+    subst (λ (n : FinMap nat_cmp ℕ). MatchOption least ((pid : ℕ) → IsDue n now pid → ⊥) (IsLeastDue n now)) named
+    (due_from_least es now least once (subst (λ (xs : List (ℕ × ℕ)). IsLeastOf least (due_numbers now xs)) same is))
 
 -- one entry more
 due_numbers_more : (es : List (ℕ × ℕ)) (now i : ℕ) (d : ℕ × ℕ) → i < length es

@@ -44,6 +44,10 @@ abbrev pub IsLeastOf : Option ℕ → List ℕ → Type 0
 IsLeastOf None numbers = numbers ≡ []
 IsLeastOf (Some least) numbers = Contains numbers least × All (λ other. least ≤ other) numbers
 
+-- no deadline of a list is before a time
+abbrev pub NoneBefore : ℕ → List (ℕ × ℕ) → Type 0
+NoneBefore earliest entries = All (λ entry. earliest ≤ entry.1) entries
+
 -- the deadlines, and how many there is room for
 pub record Places : Type 0 where
   pub deadlines : FinMap nat_cmp ℕ

@@ -3,23 +3,25 @@ ghost use Rattle.std.specs.Prelude.{◌≡◌, ◌==◌, ◌<◌, ◌≤◌, ◌
 ghost use Rattle.std.specs.Prelude.{MatchOption, IsTrue, OnOk};
 ghost use Rattle.std.specs.Ordering.{nat_cmp};
 ghost use Rattle.std.specs.FinMap as map;
-ghost use Rattle.run_queue.specs.Schedule.{IsDue, IsLeastDue, IsLeastOf, due_numbers, lesser_of};
+ghost use Rattle.run_queue.specs.Schedule.{IsDue, IsLeastDue, IsLeastOf, NoneBefore, due_numbers, lesser_of};
 
 use memory_refusal::NoMemory;
 use std::alloc::Global;
 use std::marker::Model;
 
-/// Each process that waits with a deadline, once, in no order.
+/// Each process that waits with a deadline, once, in no order. No deadline is before `earliest`, so
+/// that nobody is looked for until then.
 #[derive(Drop)]
 pub struct Deadlines {
     entries: Vec<(u64, u64)>,
+    earliest: u64,
 }
 
 impl Model for Deadlines {
     ghost use Rattle.std.specs.Prelude.{◌≡◌, length, vec_capacity};
     ghost use Rattle.std.specs.Ordering.{nat_cmp};
     ghost use Rattle.std.specs.FinMap as map;
-    ghost use Rattle.run_queue.specs.Schedule.{Places, places_code};
+    ghost use Rattle.run_queue.specs.Schedule.{Places, places_code, NoneBefore};
 
     ghost Value = { Places };
 
@@ -27,7 +29,9 @@ impl Model for Deadlines {
 
     ghost view = { λ a. record { deadlines = map.from_entries a.entries.items; room = vec_capacity a.entries } };
 
-    ghost invariant = { λ a. map.len (map.from_entries {R = nat_cmp} a.entries.items) ≡ length a.entries.items };
+    ghost invariant = { λ a.
+        (map.len (map.from_entries {R = nat_cmp} a.entries.items) ≡ length a.entries.items)
+        × NoneBefore a.earliest a.entries.items };
 }
 
 impl Deadlines {
@@ -37,6 +41,7 @@ impl Deadlines {
     {
         Deadlines {
             entries: Vec::new(alloc),
+            earliest: u64::MAX,
         }
     }
 
@@ -58,6 +63,7 @@ impl Deadlines {
         ensures deadlines { self.new.deadlines ≡ map.insert self.old.deadlines pid at }
         ensures room { self.old.room ≤ self.new.room }
     {
+        self.earliest = self.earliest.min(at);
         match place_of(&self.entries, pid) {
             Some(place) => self.entries[place] = (pid, at),
             None => match self.entries.push((pid, at)) {
@@ -75,12 +81,22 @@ impl Deadlines {
         self.entries.retain(|entry| entry.0 != pid);
     }
 
-    /// The least number whose deadline is at most `now`; None exactly where there is none.
-    pub fn least_due(&self, now: u64) -> Option<u64>
-        ensures { MatchOption result ((pid : ℕ) → ¬ IsDue self.now.deadlines now pid)
-            (IsLeastDue self.now.deadlines now) }
+    /// The least number whose deadline is at most `now`; None exactly where there is none. It looks
+    /// at the deadlines only where `now` has come to the earliest of them.
+    pub fn least_due(&mut self, now: u64) -> Option<u64>
+        ensures least { MatchOption result ((pid : ℕ) → ¬ IsDue self.old.deadlines now pid)
+            (IsLeastDue self.old.deadlines now) }
+        ensures deadlines { self.new.deadlines ≡ self.old.deadlines }
+        ensures room { self.new.room ≡ self.old.room }
     {
-        least_of_due(&self.entries, now)
+        if now < self.earliest {
+            return None;
+        }
+        let least = least_of_due(&self.entries, now);
+        if least.is_none() {
+            self.earliest = earliest_of(&self.entries);
+        }
+        least
     }
 
     /// Whether no process has a deadline.
@@ -109,6 +125,17 @@ fn least_of_due(entries: &[(u64, u64)], now: u64) -> Option<u64>
         }
     }
     least
+}
+
+/// A time that no deadline of the entries is before: the least of them.
+fn earliest_of(entries: &[(u64, u64)]) -> u64
+    ensures { NoneBefore result entries.now }
+{
+    let mut earliest = u64::MAX;
+    for &(_, at) in entries {
+        earliest = earliest.min(at);
+    }
+    earliest
 }
 
 /// The lesser of two numbers, of which the first may be missing.

@@ -74,6 +74,20 @@ impl Queue {
         }
     }
 
+    /// How many processes are in the list.
+    pub fn len(&self) -> u64
+        ensures { result ≡ length self.now.ready }
+    {
+        self.ready.len() as u64
+    }
+
+    /// Nobody is in the list.
+    pub fn is_empty(&self) -> bool
+        ensures { IsTrue result ↔ (self.now.ready ≡ []) }
+    {
+        self.ready.is_empty()
+    }
+
     /// Takes the process at the front out of the list; None exactly where the list is empty. Its place
     /// is free again.
     pub fn pop(&mut self) -> Option<u64>

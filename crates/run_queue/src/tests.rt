@@ -29,3 +29,18 @@ fn wakes_the_least(rt: HostRuntime) -> Result<(), Fail> {
     assert!(rt; !queue.timed());
     Ok(())
 }
+
+#[test]
+#[tactic(auto, using(crate::proofs::Dues::insert_le, crate::proofs::Dues::no_deadlines))]
+fn wakes_after_an_early_look(rt: HostRuntime) -> Result<(), Fail> {
+    let mut queue = Queue::new(rt.alloc());
+    queue.reserve(2)?;
+    queue.set_deadline(8, 20);
+    assert_eq!(rt; queue.due(19), None);
+    queue.set_deadline(3, 10);
+    assert_eq!(rt; queue.due(10), Some(3));
+    assert_eq!(rt; queue.due(19), None);
+    assert_eq!(rt; queue.due(20), Some(8));
+    assert_eq!(rt; queue.due(20), None);
+    Ok(())
+}

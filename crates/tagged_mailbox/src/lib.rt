@@ -16,3 +16,4 @@ mod wanted;
 pub use mailbox::Mailbox;
 pub use refused::PutRefused;
 pub use tagged::Tagged;
+pub use wanted::is_wanted;

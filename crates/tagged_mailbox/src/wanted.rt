@@ -17,8 +17,8 @@ fn is_named(tags: &[u8], tag: u64) -> bool
     false
 }
 
-/// Whether the tag is named, or none is named.
-fn is_wanted(tags: &[u8], tag: u64) -> bool
+/// Whether a tag is wanted: one that `tags` names, eight little-endian bytes each, and any where it is empty.
+pub fn is_wanted(tags: &[u8], tag: u64) -> bool
     ensures { result ≡ is_wanted tags.now tag }
 {
     tags.is_empty() || is_named(tags, tag)

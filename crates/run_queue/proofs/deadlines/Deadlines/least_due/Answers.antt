@@ -1,12 +1,21 @@
-use Rattle.std.proofs.Common.{ℕ, List, MatchOption, subst}
-use Rattle.run_queue.specs.Schedule.{Places, IsDue, IsLeastDue, IsLeastOf, due_numbers}
-use Rattle.run_queue.proofs.Dues.{due_from_least}
+use Rattle.std.proofs.Common.{ℕ, ap, subst}
+use Rattle.run_queue.specs.Schedule.{Places, IsDue}
+use Rattle.run_queue.proofs.Dues.{due_seen, none_early}
 use Rattle.run_queue.proofs.deadlines.Deadlines.least_due.Goals as goal
 
-pub returns : goal.returns
-returns c =
-    let least = subst (λ (xs : List (ℕ × ℕ)). IsLeastOf c.least_of_due.result (due_numbers c.args.now xs))
-    c.deref.ensures.value c.least_of_due.ensures in
-    subst (λ (places : Places). MatchOption c.least_of_due.result
-    ((pid : ℕ) → ¬ IsDue places.deadlines c.args.now pid) (IsLeastDue places.deadlines c.args.now)) c.self.view_is
-    (due_from_least c.self.inside.entries.items c.args.now c.least_of_due.result c.self.invariant least)
+pub returns-then-now-self-clause-least : goal.returns-then-now-self-clause-least
+returns-then-now-self-clause-least c =
+    subst (λ (places : Places). (pid : ℕ) → ¬ IsDue places.deadlines c.args.now pid) c.self.view_is
+    (none_early c.self.inside.entries.items c.self.inside.earliest c.args.now c.if-now-self.true c.self.invariant.1)
+
+pub returns-then-is_none-clause-least : goal.returns-then-is_none-clause-least
+returns-then-is_none-clause-least c =
+    due_seen c.args.self.now.deadlines c.self.inside.entries.items c.deref.result.now c.args.now c.least_of_due-least.result
+    (ap (λ (places : Places). places.deadlines) c.self.view_is) c.deref.ensures.value c.self.invariant.0
+    c.least_of_due-least.ensures
+
+pub returns-else-is_none-clause-least : goal.returns-else-is_none-clause-least
+returns-else-is_none-clause-least c =
+    due_seen c.args.self.now.deadlines c.self.inside.entries.items c.deref.result.now c.args.now c.least_of_due-least.result
+    (ap (λ (places : Places). places.deadlines) c.self.view_is) c.deref.ensures.value c.self.invariant.0
+    c.least_of_due-least.ensures

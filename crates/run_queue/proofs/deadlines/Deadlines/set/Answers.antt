@@ -2,20 +2,27 @@ use Rattle.std.proofs.Common.{◌≡◌, ℕ, ◌<◌, false, eqb, length, posit
 use Rattle.std.specs.FinMap.{insert, contains_key, len}
 use Rattle.run_queue.specs.Schedule.{Places}
 use Rattle.run_queue.proofs.Entries.{map_of, Once, absent, once_push, once_set, push_is_insert, set_is_insert}
+use Rattle.run_queue.proofs.Dues.{before_set, before_push}
 use Rattle.run_queue.proofs.deadlines.Deadlines.set.Goals as goal
 
 pub invariant_of-self : goal.invariant_of-self
 invariant_of-self c =
     let found = ap (position (λ (e : ℕ × ℕ). eqb e.0 c.args.pid)) (sym c.deref.ensures.value) ∙ sym c.place_of.ensures
-    ∙ c.in-Some.is in
-    once_set c.self.inside.entries.items c.args.pid c.args.at c.in-Some.place (0, 0) found c.self.invariant
+    ∙ c.in-Some.is in (
+      once_set c.self.inside.entries.items c.args.pid c.args.at c.in-Some.place (0, 0) found c.self.invariant.0,
+      before_set c.self.inside.entries.items c.self.inside.earliest c.in-Some.place c.args.pid c.args.at
+          c.min-self-inside.result c.min-self-inside.ensures c.self.invariant.1,
+    )
 
 pub invariant_of-self-in-Ok : goal.invariant_of-self-in-Ok
 invariant_of-self-in-Ok c =
     let none = ap (position (λ (e : ℕ × ℕ). eqb e.0 c.args.pid)) (sym c.deref.ensures.value) ∙ sym c.place_of.ensures
-    ∙ c.in-None.is in
-    subst Once (sym c.in-Ok.ensures.items) (once_push c.self.inside.entries.items c.args.pid c.args.at none
-    c.self.invariant)
+    ∙ c.in-None.is in (
+      subst Once (sym c.in-Ok.ensures.items) (once_push c.self.inside.entries.items c.args.pid c.args.at none
+          c.self.invariant.0),
+      before_push c.self.inside.entries.items c.push.new.self.items c.self.inside.earliest c.args.pid c.args.at
+          c.min-self-inside.result c.min-self-inside.ensures c.in-Ok.ensures.items c.self.invariant.1,
+    )
 
 pub unreachable-requires : goal.unreachable-requires
 unreachable-requires c =
@@ -24,7 +31,7 @@ unreachable-requires c =
     let room = subst (λ (places : Places). contains_key places.deadlines c.args.pid ≡ false
     → len places.deadlines < places.room) (sym c.self.view_is) c.requires
     (absent c.self.inside.entries.items c.args.pid none) in
-    omega (arith, room, c.self.invariant, c.in-Err.ensures.full, c.deref.ensures.len, ap length c.deref.ensures.value)
+    omega (arith, room, c.self.invariant.0, c.in-Err.ensures.full, c.deref.ensures.len, ap length c.deref.ensures.value)
 
 pub returns-in-Some-clause-deadlines : goal.returns-in-Some-clause-deadlines
 returns-in-Some-clause-deadlines c =
