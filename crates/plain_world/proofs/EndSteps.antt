@@ -6,7 +6,7 @@ use Rattle.world_rules.specs.Mail.{mail_handles}
 use Rattle.world_rules.specs.Moves.{ShutAll, ShutMail}
 use Rattle.world_rules.specs.World.{World, Process, Exit, with_process, with_closed, with_moves}
 use Rattle.world_rules.specs.Ends.{unnamed, unlinked_all, parted, held_handles, stripped, ended, fated, doomed}
-use Rattle.plain_world.specs.Shown.{nobody}
+use Rattle.plain_world.specs.ShownProcess.{nobody}
 use Rattle.plain_world.proofs.ProcessList.{put_over}
 
 -- An end, step by step as the program takes them.

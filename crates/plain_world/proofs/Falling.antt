@@ -2,10 +2,11 @@
 use Rattle.std.specs.Prelude.{◌≡◌, ◌⊎◌, ℕ, zero, suc, ◌+◌, ◌<◌, ◌≤◌, List, [], ◌∷◌, ◌++◌, length, take, slice_index, Option, Some, None, option_map, refl}
 use Rattle.std.specs.List.{cons_option}
 use Rattle.std.specs.Option.{option_to_list}
-use Rattle.std.proofs.Common.{sym, ◌∙◌, ap, inl, inr, arith, append_assoc}
+use Rattle.std.proofs.Common.{sym, ◌∙◌, ap, inl, inr, arith, append_assoc, append-nil, flat_map}
 use Rattle.std.proofs.Math.Nat.{eq-or-lt_of_le}
 use Rattle.std.proofs.lemmas.List.{take_more}
 use Rattle.std.proofs.lemmas.List.Elements.{filter_map-append}
+use Rattle.std.proofs.lemmas.List.Concat.{flat_map-append}
 use Rattle.world_rules.specs.World.{World, link_between}
 use Rattle.world_rules.specs.Links.{Told, spread, spread_times}
 use Rattle.plain_world.specs.Fall.{signals_to}
@@ -58,3 +59,13 @@ signal_pushed w member pids place first before after o within were is pushed =
     ∙ append_assoc first (signals_to w member (take place pids)) (option_to_list o)
     ∙ ap (λ (s : Option Told). first ++ (signals_to w member (take place pids) ++ option_to_list s)) is
     ∙ sym (ap (λ (told : List Told). first ++ told) (signals_more w member pids place within))
+
+-- the signals of one member more
+pub members_more : (signals : ℕ → List Told) (members : List ℕ) (place : ℕ) (before after : List Told) → place < length members →
+    before ≡ flat_map signals (take place members) → after ≡ before ++ signals (slice_index members place) →
+    after ≡ flat_map signals (take (place + 1) members)
+members_more signals members place before after within were pushed =
+    pushed ∙ ap (λ (told : List Told). told ++ signals (slice_index members place)) were
+    ∙ sym (ap (λ (pids : List ℕ). flat_map signals pids) (take_more members place 0 within)
+    ∙ flat_map-append signals (take place members) (slice_index members place ∷ [])
+    ∙ ap (λ (told : List Told). flat_map signals (take place members) ++ told) (append-nil (signals (slice_index members place))))

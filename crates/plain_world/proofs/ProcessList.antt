@@ -9,7 +9,7 @@ use Rattle.world_rules.specs.Arrivals.{What}
 use Rattle.world_rules.specs.World.{World, Process, put, with_process, is_home}
 use Rattle.world_rules.specs.Changes.{with_arrival, readied, answered, replied}
 use Rattle.plain_world.specs.declared.process.PlainProcess.{PlainProcess}
-use Rattle.plain_world.specs.Shown.{nobody, shown_process, process_in}
+use Rattle.plain_world.specs.ShownProcess.{nobody, shown_process, process_in}
 use Rattle.plain_world.proofs.Places.{look_past, look_set, look_push, look_push_nothing, same_function}
 
 -- The list of processes, and what it shows.

@@ -18,7 +18,7 @@ use Rattle.world_rules.specs.Arrivals as Came
 use Rattle.world_rules.specs.World.{World, Process, with_process, with_moves, with_closed}
 use Rattle.world_rules.specs.Time.{clocked, at_time}
 use Rattle.world_rules.specs.Rules.{recorded, streamed_in}
-use Rattle.plain_world.specs.Shown.{nobody}
+use Rattle.plain_world.specs.ShownProcess.{nobody}
 use Rattle.plain_world.specs.Turned.{turned_by, turn_put, streamed_for, starved_so}
 use Rattle.plain_world.proofs.ProcessList.{put_over}
 

@@ -5,11 +5,12 @@ pub mod Give
 pub mod Gives
 pub mod Journal
 pub mod Kept
-pub mod Marked
 pub mod Move
 pub mod Parent
 pub mod Picked
+pub mod Population
 pub mod Shown
+pub mod ShownProcess
 pub mod Stage
 pub mod Turned
 pub mod What

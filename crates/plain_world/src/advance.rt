@@ -59,9 +59,8 @@ impl PlainWorld {
         ensures { OnOk result (shown_world self.new ≡ next births.now (shown_world self.old) entry.now) }
     {
         let row = self.row_after(entry)?;
-        let earlier = self.ready.clone()?;
         self.happen(births, entry)?;
-        self.queue(&earlier, giver_of(entry))?;
+        self.queue(giver_of(entry))?;
         self.row = row;
         Ok(())
     }

@@ -29,16 +29,26 @@ impl PlainWorld {
         }
     }
 
-    /// Somebody waits with a deadline.
-    fn has_timed(&self) -> bool
-        ensures { IsTrue result ↔ (0 < length (timed_processes (shown_world self.now))) }
+    /// Those who wait with a deadline, by rising number.
+    fn timed(&self) -> Result<Vec<u64>, NoMemory>
+        ensures { IfOk result (λ timed. timed.items ≡ timed_processes (shown_world self.now)) }
     {
-        for earlier in 0..self.numbers_drawn {
-            if self.has_deadline(earlier + 1) {
-                return true;
+        let unended = self.unended()?;
+        let mut timed = Vec::new(self.alloc());
+        for pid in &unended {
+            if self.has_deadline(*pid) {
+                timed.push(*pid)?;
             }
         }
-        false
+        Ok(timed)
+    }
+
+    /// Somebody waits with a deadline.
+    fn has_timed(&self) -> Result<bool, NoMemory>
+        ensures { IfOk result (λ timed. IsTrue timed ↔ (0 < length (timed_processes (shown_world self.now)))) }
+    {
+        let timed = self.timed()?;
+        Ok(!timed.is_empty())
     }
 
     /// No worker has the process of this number.
@@ -55,8 +65,8 @@ impl PlainWorld {
     fn is_nobody_away(&self) -> bool
         ensures { IsTrue result ↔ ((pid : ℕ) → is_away ((shown_world self.now).process pid).stage ≡ false) }
     {
-        for pid in 0..self.processes.len() {
-            if !self.is_home_or_none(pid as u64) {
+        for pid in self.processes.watched() {
+            if !self.is_home_or_none(*pid) {
                 return false;
             }
         }
@@ -64,10 +74,29 @@ impl PlainWorld {
     }
 
     /// Nothing is ready, out or doomed, and nobody waits with a deadline.
-    fn is_stuck(&self) -> bool
-        ensures { IsTrue result ↔ IsStuck (shown_world self.now) }
+    fn is_stuck(&self) -> Result<bool, NoMemory>
+        ensures { IfOk result (λ stuck. IsTrue stuck ↔ IsStuck (shown_world self.now)) }
     {
-        self.ready.is_empty() && self.is_nobody_away() && !self.has_timed()
+        let timed = self.has_timed()?;
+        Ok(self.ready().is_empty() && self.is_nobody_away() && !timed)
+    }
+
+    /// The run goes on, and somebody waits with a deadline.
+    fn allows_tick(&self) -> Result<bool, NoMemory>
+        ensures { IfOk result (λ allowed. IsTrue allowed ↔
+            (((shown_world self.now).over ≡ false) × (0 < length (timed_processes (shown_world self.now))))) }
+    {
+        let timed = self.has_timed()?;
+        Ok(!self.over && timed)
+    }
+
+    /// The run goes on, and nothing can happen any more.
+    fn allows_stall(&self) -> Result<bool, NoMemory>
+        ensures { IfOk result (λ allowed. IsTrue allowed ↔
+            (((shown_world self.now).over ≡ false) × IsStuck (shown_world self.now))) }
+    {
+        let stuck = self.is_stuck()?;
+        Ok(!self.over && stuck)
     }
 
     /// The run goes on, and this process is at the front of the ready list.
@@ -75,7 +104,7 @@ impl PlainWorld {
         ensures { IsTrue result ↔
             (((shown_world self.now).over ≡ false) × (slice_get (shown_world self.now).ready 0 ≡ Some pid)) }
     {
-        !self.over && self.ready.first() == Some(&pid)
+        !self.over && self.ready().first() == Some(&pid)
     }
 
     /// The entry is allowed in this world, where nothing is tested against terms. `NoMemory` comes for want of memory
@@ -103,8 +132,8 @@ impl PlainWorld {
                     side,
                 },
             ),
-            Entry::Tick { .. } => Ok(!self.over && self.has_timed()),
-            Entry::Stall { .. } => Ok(!self.over && self.is_stuck()),
+            Entry::Tick { .. } => self.allows_tick(),
+            Entry::Stall { .. } => self.allows_stall(),
             Entry::Idle { .. } | Entry::Starve { .. } => Ok(!self.over),
         }
     }

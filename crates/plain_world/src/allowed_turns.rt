@@ -17,7 +17,8 @@ ghost use Rattle.world_rules.specs.Allowed.{
 ghost use Rattle.plain_part.specs.Shown.{shown_part};
 ghost use Rattle.plain_world.specs.Give.{shown_give};
 ghost use Rattle.plain_world.specs.Stage.{shown_stage};
-ghost use Rattle.plain_world.specs.Shown.{shown_process, shown_world};
+ghost use Rattle.plain_world.specs.ShownProcess.{shown_process};
+ghost use Rattle.plain_world.specs.Shown.{shown_world};
 
 use crate::allowed_sides::is_nothing;
 use crate::{PlainGive, PlainProcess, PlainStage, PlainWorld};

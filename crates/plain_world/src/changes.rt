@@ -12,7 +12,8 @@ ghost use Rattle.world_rules.specs.Changes.{
 };
 ghost use Rattle.plain_part.specs.Shown.{shown_item, shown_part};
 ghost use Rattle.plain_world.specs.What.{shown_what};
-ghost use Rattle.plain_world.specs.Shown.{shown_process, shown_world};
+ghost use Rattle.plain_world.specs.ShownProcess.{shown_process};
+ghost use Rattle.plain_world.specs.Shown.{shown_world};
 
 use crate::{Arrival, PlainStage, PlainWhat, PlainWorld};
 use host_port::{Call, Reply, Request};

@@ -15,7 +15,8 @@ ghost use Rattle.world_rules.specs.Ends.{
   all_end,
   closed_with_first,
 };
-ghost use Rattle.plain_world.specs.Shown.{shown_process, shown_world};
+ghost use Rattle.plain_world.specs.ShownProcess.{shown_process};
+ghost use Rattle.plain_world.specs.Shown.{shown_world};
 
 use crate::link_list::cut_links;
 use crate::name_list::forget;

@@ -4,6 +4,12 @@ ghost use Rattle.std.specs.Prelude.{
   [],
   ◌∷◌,
   ◌++◌,
+  ◌&&◌,
+  ◌||◌,
+  ℕ,
+  nat_lt,
+  nat_le,
+  true,
   IsTrue,
   IfOk,
   OnOk,
@@ -16,7 +22,7 @@ ghost use Rattle.std.specs.Prelude.{
 ghost use Rattle.std.specs.List.{list_any};
 ghost use Rattle.std.specs.Option.{option_to_list};
 ghost use Rattle.world_rules.specs.Part.{is_among};
-ghost use Rattle.world_rules.specs.World.{live_processes, link_between};
+ghost use Rattle.world_rules.specs.World.{is_live, link_between};
 ghost use Rattle.world_rules.specs.Links.{
   are_linked,
   falls_with,
@@ -26,10 +32,11 @@ ghost use Rattle.world_rules.specs.Links.{
   signals_from,
   signals_of,
 };
-ghost use Rattle.plain_world.specs.Fall.{IsFall, signals_to};
+ghost use Rattle.plain_world.specs.Fall.{IsFall, HasEnds, AreNear, AreToTell, signals_to};
 ghost use Rattle.plain_world.specs.Shown.{shown_world};
 
-use crate::{PlainWorld, Told};
+use crate::population::is_drawn;
+use crate::{Numbers, PlainLink, PlainWorld, Told};
 use memory_refusal::NoMemory;
 use plain_part::{is_among, without_number};
 use world_rules::End;
@@ -56,6 +63,30 @@ fn push_signal(told: &mut Vec<Told>, signal: Option<Told>) -> Result<(), NoMemor
 {
     if let Some(signal) = signal {
         told.push(signal)?;
+    }
+    Ok(())
+}
+
+/// Adds the other end of a link, where one end is among these.
+fn add_ends(near: &mut Numbers, members: &[u64], link: &PlainLink) -> Result<(), NoMemory>
+    ensures { OnOk result (HasEnds near.old members.now link.now near.new) }
+{
+    if is_among(members, link.low) {
+        near.add(link.high)?;
+    }
+    if is_among(members, link.high) {
+        near.add(link.low)?;
+    }
+    Ok(())
+}
+
+/// Adds these numbers.
+fn add_all(numbers: &mut Numbers, more: &[u64]) -> Result<(), NoMemory>
+    ensures { OnOk result ((pid : ℕ) →
+        (is_among numbers.old pid || is_among more.now pid) ≡ true → is_among numbers.new pid ≡ true) }
+{
+    for pid in more {
+        numbers.add(*pid)?;
     }
     Ok(())
 }
@@ -97,15 +128,36 @@ impl PlainWorld {
         self.is_live(pid) && self.dies(pid) && self.is_linked_with(members, pid)
     }
 
+    /// Numbers among which each is whose process is linked with one of these.
+    fn neighbours(&self, members: &[u64]) -> Result<Numbers, NoMemory>
+        ensures { IfOk result (λ near. AreNear (shown_world self.now) members.now near) }
+    {
+        let mut near = Numbers::new(self.alloc());
+        for link in &self.links {
+            add_ends(&mut near, members, link)?;
+        }
+        Ok(near)
+    }
+
+    /// A number that was drawn is among the members, or its process falls with one of them.
+    fn is_spread_to(&self, members: &[u64], pid: u64) -> bool
+        ensures { result ≡ ((nat_lt 0 pid && nat_le pid self.now.numbers_drawn) &&
+            (is_among members.now pid || falls_with (shown_world self.now) members.now pid)) }
+    {
+        is_drawn(self.numbers_drawn, pid)
+            && (is_among(members, pid) || self.falls_with(members, pid))
+    }
+
     /// The members and those that fall with one of them, by rising number.
     fn spread(&self, members: &[u64]) -> Result<Vec<u64>, NoMemory>
         ensures { IfOk result (λ more. more.items ≡ spread (shown_world self.now) members.now) }
     {
+        let mut near = self.neighbours(members)?;
+        add_all(&mut near, members)?;
         let mut more = Vec::new(self.alloc());
-        for lower in 0..self.numbers_drawn {
-            let pid = lower + 1;
-            if is_among(members, pid) || self.falls_with(members, pid) {
-                more.push(pid)?;
+        for pid in near.as_slice() {
+            if self.is_spread_to(members, *pid) {
+                more.push(*pid)?;
             }
         }
         Ok(more)
@@ -138,15 +190,22 @@ impl PlainWorld {
         }
     }
 
-    /// The live processes that are not among these, by rising number.
-    fn outsiders(&self, members: &[u64]) -> Result<Vec<u64>, NoMemory>
-        ensures { IfOk result (λ others. others.items ≡
-            filter (λ pid. not (is_among members.now pid)) (live_processes (shown_world self.now))) }
+    /// A number that was drawn is of a live process, and not among these.
+    fn is_outsider(&self, members: &[u64], pid: u64) -> bool
+        ensures { result ≡ ((nat_lt 0 pid && nat_le pid self.now.numbers_drawn) &&
+            (not (is_among members.now pid) && is_live ((shown_world self.now).process pid).stage)) }
     {
+        is_drawn(self.numbers_drawn, pid) && !is_among(members, pid) && self.is_live(pid)
+    }
+
+    /// The live processes that are not among these, by rising number, as far as one of these has to tell them.
+    fn outsiders(&self, members: &[u64]) -> Result<Vec<u64>, NoMemory>
+        ensures { IfOk result (λ others. AreToTell (shown_world self.now) members.now others.items) }
+    {
+        let near = self.neighbours(members)?;
         let mut others = Vec::new(self.alloc());
-        let live = self.live_processes()?;
-        for pid in &live {
-            if !is_among(members, *pid) {
+        for pid in near.as_slice() {
+            if self.is_outsider(members, *pid) {
                 others.push(*pid)?;
             }
         }

@@ -1,7 +1,7 @@
 ghost use Rattle.std.specs.Prelude.{◌≡◌};
 ghost use Rattle.world_rules.specs.World.{Unborn, no_start, fresh_process};
 ghost use Rattle.plain_world.specs.Stage.{shown_stage};
-ghost use Rattle.plain_world.specs.Shown.{shown_process};
+ghost use Rattle.plain_world.specs.ShownProcess.{shown_process};
 
 use crate::{Arrival, Mailbox, PlainStage};
 use host_port::{Bytes, Calls, Limits, Params, Request, Start};

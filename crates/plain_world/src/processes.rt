@@ -1,6 +1,6 @@
-ghost use Rattle.std.specs.Prelude.{◌≡◌, ◌≤◌, OnOk, length};
+ghost use Rattle.std.specs.Prelude.{◌≡◌, ◌≤◌, OnOk, OnErr, length};
 ghost use Rattle.world_rules.specs.World.{put};
-ghost use Rattle.plain_world.specs.Shown.{nobody, process_in, shown_process};
+ghost use Rattle.plain_world.specs.ShownProcess.{nobody, process_in, shown_process};
 
 use crate::PlainProcess;
 use memory_refusal::NoMemory;
@@ -22,7 +22,7 @@ pub(crate) fn take_at(alloc: Global, processes: &mut Vec<PlainProcess>, pid: u64
 
 /// Processes that nobody was born with, so that the list is at least so long.
 fn fill(alloc: Global, processes: &mut Vec<PlainProcess>, len: usize) -> Result<(), NoMemory>
-    ensures same { OnOk result (process_in processes.new.items ≡ process_in processes.old.items) }
+    ensures same { process_in processes.new.items ≡ process_in processes.old.items }
     ensures long { OnOk result (len ≤ length processes.new.items) }
 {
     'filling: while processes.len() < len {
@@ -38,8 +38,9 @@ pub(crate) fn put_at(
     pid: u64,
     process: PlainProcess,
 ) -> Result<(), NoMemory>
-    ensures { OnOk result (process_in processes.new.items ≡
+    ensures put_in { OnOk result (process_in processes.new.items ≡
         put (process_in processes.old.items) pid (shown_process process)) }
+    ensures same { OnErr result (process_in processes.new.items ≡ process_in processes.old.items) }
 {
     let at = pid as usize;
     fill(alloc, processes, at)?;

@@ -8,7 +8,8 @@ ghost use Rattle.world_rules.specs.Local.{local, part_of, part_after};
 ghost use Rattle.world_rules.specs.Rules.{gives_after, recorded, home};
 ghost use Rattle.world_rules.specs.Views.{asked_in, wanted_in, want_of, is_starved};
 ghost use Rattle.plain_part.specs.Shown.{shown_part};
-ghost use Rattle.plain_world.specs.Shown.{shown_process, shown_world};
+ghost use Rattle.plain_world.specs.ShownProcess.{shown_process};
+ghost use Rattle.plain_world.specs.Shown.{shown_world};
 ghost use Rattle.plain_world.specs.Turned.{turned_by, turn_put, streamed_for, starved_so};
 
 use crate::{Move, PlainMove, PlainProcess, PlainStage, PlainWhat, PlainWorld};

@@ -505,7 +505,7 @@ fn a_child_starts_as_its_parent_asks(rt: HostRuntime) -> Result<(), Fail> {
     let alloc = rt.alloc();
     let (run, spawns) = asking(alloc, Birth::Born(child(alloc, 5, 2)?))?;
     let run = step(run, spawns)?;
-    assert_eq!(rt; run.world().ready.as_slice(), [2, 1].as_slice());
+    assert_eq!(rt; run.world().ready(), [2, 1].as_slice());
     let (run, spawns) = asking(alloc, Birth::Born(child(alloc, 6, 2)?))?;
     assert!(rt; !run.allows(&spawns)?);
     let (run, spawns) = asking(alloc, Birth::Born(child(alloc, 5, 64)?))?;

@@ -100,10 +100,10 @@ impl PlainWorld {
             filter (λ (pid : ℕ). is_due time ((shown_world self.now).process pid)) (up_to self.now.numbers_drawn)) }
     {
         let mut due = Vec::new(self.alloc());
-        for place in 0..self.numbers_drawn {
-            let pid = place + 1;
-            if self.is_due(time, pid) {
-                due.push(pid)?;
+        let unended = self.unended()?;
+        for pid in &unended {
+            if self.is_due(time, *pid) {
+                due.push(*pid)?;
             }
         }
         Ok(due)

@@ -8,17 +8,19 @@ ghost use Rattle.world_rules.specs.World.{
   is_live,
   is_home,
   live_processes,
+  processes_at,
   link_between,
 };
+ghost use Rattle.world_rules.specs.Touches.{is_there};
 ghost use Rattle.world_rules.specs.Links.{with_link};
 ghost use Rattle.world_rules.specs.Registry.{with_name};
 ghost use Rattle.plain_world.specs.Move.{shown_move};
-ghost use Rattle.plain_world.specs.Shown.{nobody, shown_process, shown_world};
+ghost use Rattle.plain_world.specs.ShownProcess.{nobody, shown_process};
+ghost use Rattle.plain_world.specs.Shown.{shown_world};
 
 use crate::link_list::{set_tag, tag_between};
 use crate::name_list::{named, set_named};
-use crate::processes::{put_at, take_at};
-use crate::{Exit, Move, PlainMove, PlainProcess, PlainStage, Streamed};
+use crate::{Exit, Move, PlainMove, PlainProcess, PlainStage, Population, Streamed};
 use host_port::{Bytes, Start};
 use memory_refusal::NoMemory;
 use std::alloc::Global;
@@ -46,10 +48,8 @@ pub struct PlainName {
 /// The state of a whole run, kept plainly.
 #[derive(Debug, Drop)]
 pub struct PlainWorld {
-    /// The ready list, the front first.
-    pub ready: Vec<u64>,
-    /// The process of each number, from 0 on; past the last one nobody was born.
-    pub processes: Vec<PlainProcess>,
+    /// The ready list, and the process of each number.
+    pub processes: Population,
     /// The links; of two processes the first entry counts.
     pub links: Vec<PlainLink>,
     /// The names; of one name the first entry counts.
@@ -83,14 +83,9 @@ impl PlainWorld {
     pub fn new(alloc: Global, start: Start) -> Result<PlainWorld, NoMemory>
         ensures { IfOk result (λ world. shown_world world ≡ first_world (Born start ∷ [])) }
     {
-        let mut ready = Vec::new(alloc);
-        ready.push(1)?;
-        let mut processes = Vec::new(alloc);
-        processes.push(PlainProcess::unborn(alloc))?;
-        processes.push(PlainProcess::fresh(alloc, start, PlainStage::Ready))?;
+        let first = PlainProcess::fresh(alloc, start, PlainStage::Ready);
         Ok(PlainWorld {
-            ready,
-            processes,
+            processes: Population::new(alloc, first)?,
             links: Vec::new(alloc),
             names: Vec::new(alloc),
             numbers_drawn: 1,
@@ -109,7 +104,14 @@ impl PlainWorld {
 
     /// The allocator.
     pub(crate) fn alloc(&self) -> Global {
-        *self.ready.allocator()
+        *self.closed.allocator()
+    }
+
+    /// The ready list, the front first.
+    pub fn ready(&self) -> &[u64]
+        ensures { result.now ≡ (shown_world self.now).ready }
+    {
+        self.processes.ready()
     }
 
     /// The process of this number, if anybody was born with it.
@@ -117,7 +119,7 @@ impl PlainWorld {
         ensures { MatchOption result ((shown_world self.now).process pid ≡ nobody)
             (λ process. (shown_world self.now).process pid ≡ shown_process process.now) }
     {
-        self.processes.get(pid as usize)
+        self.processes.get(pid)
     }
 
     /// The process of this number is live.
@@ -149,7 +151,7 @@ impl PlainWorld {
         ensures left { shown_world self.new ≡ with_process (shown_world self.old) pid nobody }
     {
         let alloc = self.alloc();
-        take_at(alloc, &mut self.processes, pid)
+        self.processes.take(alloc, pid)
     }
 
     /// Puts a process in the place of this number.
@@ -157,7 +159,14 @@ impl PlainWorld {
         ensures { OnOk result (shown_world self.new ≡ with_process (shown_world self.old) pid (shown_process process)) }
     {
         let alloc = self.alloc();
-        put_at(alloc, &mut self.processes, pid, process)
+        self.processes.put(alloc, pid, process)
+    }
+
+    /// The processes that were born and have not ended, by rising number.
+    pub(crate) fn unended(&self) -> Result<Vec<u64>, NoMemory>
+        ensures { IfOk result (λ pids. pids.items ≡ processes_at is_there (shown_world self.now)) }
+    {
+        self.processes.unended(self.alloc(), self.numbers_drawn)
     }
 
     /// The live processes, by rising number.
@@ -165,10 +174,10 @@ impl PlainWorld {
         ensures { IfOk result (λ pids. pids.items ≡ live_processes (shown_world self.now)) }
     {
         let mut pids = Vec::new(self.alloc());
-        for lower in 0..self.numbers_drawn {
-            let pid = lower + 1;
-            if self.is_live(pid) {
-                pids.push(pid)?;
+        let unended = self.unended()?;
+        for pid in &unended {
+            if self.is_live(*pid) {
+                pids.push(*pid)?;
             }
         }
         Ok(pids)

@@ -1,5 +1,5 @@
 use Rattle.std.proofs.Common.{◌∙◌, ap}
-use Rattle.plain_world.specs.Shown.{process_in}
+use Rattle.plain_world.specs.ShownProcess.{process_in}
 use Rattle.plain_world.proofs.ProcessList.{process_push_nobody}
 use Rattle.plain_world.proofs.processes.fill.Goals as goal
 

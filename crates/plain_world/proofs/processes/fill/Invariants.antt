@@ -1,5 +1,5 @@
 use Rattle.std.proofs.Common.{◌≡◌, ◌-◌, length}
-use Rattle.plain_world.specs.Shown.{process_in}
+use Rattle.plain_world.specs.ShownProcess.{process_in}
 use Rattle.plain_world.proofs.processes.fill.Given as goal
 
 abbrev pub invariant-filling : goal.invariant-filling

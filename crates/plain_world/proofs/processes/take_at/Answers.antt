@@ -1,6 +1,6 @@
 use Rattle.std.proofs.Common.{sym, ◌∙◌, ap, arith}
 use Rattle.world_rules.specs.World.{Process, put}
-use Rattle.plain_world.specs.Shown.{process_in, shown_process}
+use Rattle.plain_world.specs.ShownProcess.{process_in, shown_process}
 use Rattle.plain_world.proofs.ProcessList.{process_past, process_none, process_set}
 use Rattle.plain_world.proofs.processes.take_at.Goals as goal
 

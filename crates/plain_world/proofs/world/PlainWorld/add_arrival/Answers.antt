@@ -3,7 +3,8 @@ use Rattle.world_rules.specs.World.{Process}
 use Rattle.world_rules.specs.Arrivals.{Arrival}
 use Rattle.world_rules.specs.Changes.{reached}
 use Rattle.plain_world.specs.What.{shown_what}
-use Rattle.plain_world.specs.Shown.{shown_process, shown_world}
+use Rattle.plain_world.specs.ShownProcess.{shown_process}
+use Rattle.plain_world.specs.Shown.{shown_world}
 use Rattle.plain_world.proofs.ProcessList.{put_changed_ok}
 use Rattle.plain_world.proofs.world.PlainWorld.add_arrival.Goals as goal
 

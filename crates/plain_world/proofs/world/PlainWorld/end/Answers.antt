@@ -1,6 +1,7 @@
 use Rattle.std.proofs.Common.{◌∙◌, ap, [], ◌∷◌, ◌++◌}
 use Rattle.world_rules.specs.World.{Exit}
-use Rattle.plain_world.specs.Shown.{shown_process, shown_world}
+use Rattle.plain_world.specs.ShownProcess.{shown_process}
+use Rattle.plain_world.specs.Shown.{shown_world}
 use Rattle.plain_world.proofs.EndSteps.{ended_back}
 use Rattle.plain_world.proofs.world.PlainWorld.end.Goals as goal
 

@@ -4,7 +4,8 @@ use Rattle.host_port.specs.declared.call.Call.{Call}
 use Rattle.host_port.specs.declared.request.Request.{Request}
 use Rattle.world_rules.specs.World.{Ready}
 use Rattle.world_rules.specs.Changes.{readied}
-use Rattle.plain_world.specs.Shown.{shown_process, shown_world}
+use Rattle.plain_world.specs.ShownProcess.{shown_process}
+use Rattle.plain_world.specs.Shown.{shown_world}
 use Rattle.plain_world.proofs.ProcessList.{put_changed_ok}
 use Rattle.plain_world.proofs.world.PlainWorld.make_ready.Goals as goal
 

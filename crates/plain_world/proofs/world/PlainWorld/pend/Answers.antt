@@ -2,7 +2,8 @@ use Rattle.std.proofs.Common.{ap, Some}
 use Rattle.world_rules.specs.World.{Process}
 use Rattle.host_port.specs.declared.request.Request.{Request}
 use Rattle.world_rules.specs.World.{Ready}
-use Rattle.plain_world.specs.Shown.{shown_process, shown_world}
+use Rattle.plain_world.specs.ShownProcess.{shown_process}
+use Rattle.plain_world.specs.Shown.{shown_world}
 use Rattle.plain_world.proofs.ProcessList.{put_changed_ok}
 use Rattle.plain_world.proofs.world.PlainWorld.pend.Goals as goal
 

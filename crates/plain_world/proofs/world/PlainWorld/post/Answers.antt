@@ -2,7 +2,8 @@ use Rattle.std.proofs.Common.{ap, List, [], ◌∷◌, ◌++◌}
 use Rattle.world_rules.specs.World.{Process}
 use Rattle.world_rules.specs.Mail.{MailItem}
 use Rattle.plain_part.specs.Shown.{shown_item}
-use Rattle.plain_world.specs.Shown.{shown_process, shown_world}
+use Rattle.plain_world.specs.ShownProcess.{shown_process}
+use Rattle.plain_world.specs.Shown.{shown_world}
 use Rattle.plain_world.proofs.ProcessList.{put_changed_ok}
 use Rattle.plain_world.proofs.world.PlainWorld.post.Goals as goal
 

@@ -1,7 +1,8 @@
 use Rattle.std.proofs.Common.{refl}
 use Rattle.world_rules.specs.World.{Process}
 use Rattle.plain_part.specs.Shown.{shown_part}
-use Rattle.plain_world.specs.Shown.{shown_process, shown_world}
+use Rattle.plain_world.specs.ShownProcess.{shown_process}
+use Rattle.plain_world.specs.Shown.{shown_world}
 use Rattle.plain_world.proofs.ProcessList.{put_changed_ok}
 use Rattle.plain_world.proofs.world.PlainWorld.put_part.Goals as goal
 

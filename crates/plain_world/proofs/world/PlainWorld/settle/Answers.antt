@@ -3,7 +3,8 @@ use Rattle.world_rules.specs.Part.{Part}
 use Rattle.world_rules.specs.World.{Process}
 use Rattle.world_rules.specs.Settled.{settled, Delivered}
 use Rattle.plain_part.specs.Shown.{shown_item}
-use Rattle.plain_world.specs.Shown.{shown_process, shown_world}
+use Rattle.plain_world.specs.ShownProcess.{shown_process}
+use Rattle.plain_world.specs.Shown.{shown_world}
 use Rattle.plain_world.proofs.ProcessList.{put_changed_ok}
 use Rattle.plain_world.proofs.world.PlainWorld.settle.Goals as goal
 

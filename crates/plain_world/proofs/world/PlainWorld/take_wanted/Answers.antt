@@ -1,7 +1,8 @@
 use Rattle.std.proofs.Common.{ℕ, List, ap, ◌∙◌}
 use Rattle.world_rules.specs.Mail.{MailItem, tags_in, unpicked}
 use Rattle.world_rules.specs.World.{Process}
-use Rattle.plain_world.specs.Shown.{shown_process, shown_world}
+use Rattle.plain_world.specs.ShownProcess.{shown_process}
+use Rattle.plain_world.specs.Shown.{shown_world}
 use Rattle.plain_world.proofs.ProcessList.{put_changed}
 use Rattle.plain_world.proofs.world.PlainWorld.take_wanted.Goals as goal
 
