@@ -1,0 +1,15 @@
+mod Tags
+mod Wanting
+mod Letting
+mod Sets
+mod Showing
+mod Listing
+mod Keeping
+mod Passing
+mod Telling
+mod Posting
+mod Counting
+mod Sending
+mod Bringing
+mod Emptying
+mod Striking
