@@ -12,7 +12,7 @@ use Rattle.module_validator.specs.Answers.{meant_by}
 use Rattle.module_validator.specs.declared.answer.Verdict.{Verdict}
 use Rattle.module_validator.specs.declared.answer.Verdict.TheVariants.{Accepted, Malformed, Outside, Invalid}
 use Rattle.tree_machine.specs.Begin.{begin}
-use Rattle.lunatic_cli.specs.declared.options.Options.{Options}
+use Rattle.command_words.specs.declared.options.Options.{Options}
 use Rattle.lunatic_cli.specs.File.{file_limit, IsContent, IsUnreadable, TellsUnread, HasVerdict, HasModule}
 use Rattle.lunatic_cli.specs.Options.{first_start}
 use Rattle.lunatic_cli.specs.Runs.{Returns}

@@ -7,7 +7,7 @@ use Rattle.process_table.specs.Seen.{Seen, setting_of}
 use Rattle.module_validator.specs.ValidModule.{ValidModule}
 use Rattle.tree_machine.specs.Begin as begins
 use Rattle.tree_machine.specs.Run as runs
-use Rattle.lunatic_cli.specs.declared.options.Options.{Options}
+use Rattle.command_words.specs.declared.options.Options.{Options}
 use Rattle.lunatic_cli.specs.Options.{first_start}
 use Rattle.lunatic_cli.specs.Runs.{valid_setting, IsFirstNode}
 

@@ -21,7 +21,7 @@ use Rattle.module_validator.specs.ValidModule.{ValidModule}
 use Rattle.tree_machine.specs.Begin as begins
 use Rattle.tree_machine.specs.Run as runs
 use Rattle.process_table.specs.Seen.{Seen, setting_of}
-use Rattle.lunatic_cli.specs.declared.options.Options.{Options}
+use Rattle.command_words.specs.declared.options.Options.{Options}
 use Rattle.lunatic_cli.specs.Headline.{Tellings, OneJournal}
 use Rattle.lunatic_cli.specs.Options.{first_start}
 use Rattle.lunatic_cli.specs.Runs.{run_setting, valid_setting, IsFirstNode}

@@ -32,7 +32,7 @@ use Rattle.tree_machine.specs.Run.{course, run, point_at, at}
 use Rattle.tree_machine.specs.RunLaws.{at_point}
 use Rattle.tree_machine.specs.CallLaws.{course_is, run_more, was_ready}
 use Rattle.lunatic_cli.specs.declared.finish.Finish.{Finish}
-use Rattle.lunatic_cli.specs.declared.options.Options.{Options}
+use Rattle.command_words.specs.declared.options.Options.{Options}
 use Rattle.lunatic_cli.specs.Options.{first_start}
 use Rattle.lunatic_cli.specs.Runs.{valid_setting, Returns}
 use Rattle.lunatic_cli.specs.Statuses.{told_status, status_of_end, AsksSomething, EndsFirst, NoneEndsAll, EndsByLast, HasStatus}

@@ -12,7 +12,7 @@ use Rattle.wasm_form.specs.declared.parts.Parts.{Parts}
 use Rattle.module_validator.specs.declared.answer.Verdict.{Verdict}
 use Rattle.module_validator.specs.declared.answer.Verdict.TheVariants.{Accepted}
 use Rattle.lunatic_cli.specs.declared.finish.Finish.{Finish}
-use Rattle.lunatic_cli.specs.declared.options.Options.{Options}
+use Rattle.command_words.specs.declared.options.Options.{Options}
 use Rattle.lunatic_cli.specs.File.{HasModule}
 use Rattle.lunatic_cli.specs.Headline.{HeadlineOfFile}
 use Rattle.lunatic_cli.specs.Ending.{Outcome, RunsModule}

@@ -12,7 +12,7 @@ use Rattle.world_rules.specs.Book.{Book}
 use Rattle.wasm_form.specs.declared.parts.Parts.{Parts}
 use Rattle.tree_machine.specs.Begin.{begin}
 use Rattle.lunatic_cli.specs.declared.finish.Finish.{Finish}
-use Rattle.lunatic_cli.specs.declared.options.Options.{Options}
+use Rattle.command_words.specs.declared.options.Options.{Options}
 use Rattle.lunatic_cli.specs.Ending.{Outcome, WritesReport, RefusesStart, RunsNothing, RunsModule}
 use Rattle.lunatic_cli.specs.Options.{first_start}
 use Rattle.lunatic_cli.specs.Writing.{Written}

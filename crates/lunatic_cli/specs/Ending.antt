@@ -9,14 +9,15 @@ use Rattle.wasm_form.specs.declared.parts.Parts.{Parts}
 use Rattle.module_validator.specs.declared.answer.Verdict.{Verdict}
 use Rattle.module_validator.specs.declared.answer.Verdict.TheVariants.{Accepted}
 use Rattle.tree_machine.specs.Begin.{begin}
-use Rattle.lunatic_cli.specs.declared.options.Options.{Options}
+use Rattle.command_words.specs.declared.options.Options.{Options}
 use Rattle.lunatic_cli.specs.declared.finish.Finish.{Finish}
 use Rattle.resource_table.specs.Steps.{Told}
-use Rattle.lunatic_cli.specs.Words.{Command, Run, Check}
+use Rattle.lunatic_cli.specs.declared.words.Asked.{Asked}
+use Rattle.lunatic_cli.specs.declared.words.Asked.TheVariants.{Run, Check}
 use Rattle.lunatic_cli.specs.Statuses.{HasStatus}
 use Rattle.lunatic_cli.specs.File.{HasVerdict, HasModule}
 use Rattle.lunatic_cli.specs.Headline.{Tellings, OneJournal}
-use Rattle.lunatic_cli.specs.Options.{default_options, first_start}
+use Rattle.lunatic_cli.specs.Options.{first_start}
 use Rattle.lunatic_cli.specs.Runs.{run_setting, Returns}
 use Rattle.lunatic_cli.specs.Texts.{words_line, start_line}
 use Rattle.lunatic_cli.specs.Writing.{Written, AppendsAll, AppendsFront, WritesLine}
@@ -97,10 +98,16 @@ pub record EndsRefused {S : Type 0} (sink : Written) (finish : Finish S) : Type 
   pub verdict_is : finish.verdict ≡ None
   pub line : WritesLine words_line sink
 
--- the end of the program, by what the words ask for; a run has the options that stand where none are named
-abbrev pub Ends : {S : Type 0} → Option Contents → Told S → Outcome → Finish S → Option Command → Type 0
-Ends content tells at finish None = EndsRefused at.sink finish
-Ends content tells at finish (Some (Run name)) = EndsRun content name default_options tells at finish finish.verdict
+-- memory was wanting before the words were read
+pub record EndsUnasked {S : Type 0} (sink : Written) (finish : Finish S) : Type 0 where
+  pub status_is : finish.status ≡ 8
+  pub verdict_is : finish.verdict ≡ None
+  pub nothing : sink.after ≡ sink.before
+
+-- the end of the program, by what the words ask for; a run has the options that they name
+abbrev pub Ends : {S : Type 0} → Option Contents → Told S → Outcome → Finish S → Option Asked → Type 0
+Ends content tells at finish None = EndsRefused at.sink finish ⊎ EndsUnasked at.sink finish
+Ends content tells at finish (Some (Run name options)) = EndsRun content name options tells at finish finish.verdict
 Ends content tells at finish (Some (Check name)) = EndsCheck content name at.sink finish.status finish.verdict
 
 -- what becomes of a run of the file of this name, want of memory aside, where neither its reading nor a write fails
@@ -122,10 +129,10 @@ abbrev pub RunCompletes : Option Contents → (name : List ℕ) → Options → 
 RunCompletes content name options status = IfSome content (λ _. CompletesRun content name options status)
 
 -- what becomes of the file that the words name, by what they ask for
-abbrev pub CompletesFile : Option Contents → (status : ℕ) → Command → Type 0
-CompletesFile content status (Run name) = CompletesRun content name default_options status
+abbrev pub CompletesFile : Option Contents → (status : ℕ) → Asked → Type 0
+CompletesFile content status (Run name options) = CompletesRun content name options status
 CompletesFile content status (Check name) = CompletesCheck content name status
 
 -- what becomes of the file that the words name, where the store tells its contents
-abbrev pub Completes : Option Contents → Option Command → (status : ℕ) → Type 0
-Completes content command status = IfSome command (λ asked. IfSome content (λ _. CompletesFile content status asked))
+abbrev pub Completes : Option Contents → Option Asked → (status : ℕ) → Type 0
+Completes content asked status = IfSome asked (λ one. IfSome content (λ _. CompletesFile content status one))

@@ -18,7 +18,7 @@ use Rattle.world_rules.specs.Legal.{Rounds}
 use Rattle.world_rules.specs.Lives.{Setting, IsRun}
 use Rattle.world_rules.specs.Report.{report_text}
 use Rattle.wasm_form.specs.declared.parts.Parts.{Parts}
-use Rattle.lunatic_cli.specs.declared.options.Options.{Options}
+use Rattle.command_words.specs.declared.options.Options.{Options}
 use Rattle.lunatic_cli.specs.File.{HasModule}
 use Rattle.lunatic_cli.specs.Causes.{failures_of, waits_of, HaveGrown}
 use Rattle.lunatic_cli.specs.Handles.{StandInOnePlace}

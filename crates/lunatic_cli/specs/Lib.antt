@@ -14,5 +14,6 @@ pub mod Resting
 pub mod Options
 pub mod Runs
 pub mod Headline
+pub mod Ranges
 pub mod Ending
 pub mod Scripts

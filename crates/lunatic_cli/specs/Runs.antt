@@ -8,7 +8,7 @@ use Rattle.wasm_form.specs.declared.parts.Parts.{Parts}
 use Rattle.module_validator.specs.ValidModule.{ValidModule}
 use Rattle.tree_machine.specs.Begin as begins
 use Rattle.tree_machine.specs.Run as runs
-use Rattle.lunatic_cli.specs.declared.options.Options.{Options}
+use Rattle.command_words.specs.declared.options.Options.{Options}
 use Rattle.lunatic_cli.specs.Options.{first_start}
 
 -- a run of this one module: why it doesn't start, and where it stands after calls and fuel, are the definition's

@@ -1,38 +1,29 @@
--- The words of the command line, after the program's name.
-use Rattle.std.specs.Prelude.{ℕ, ◌==◌, Bool, false, not, List, [], ◌∷◌, Option, Some, None, codes, if◌then◌else◌}
-use Rattle.std.specs.Str.{bytes_eq}
-use Rattle.lunatic_cli.specs.declared.words.Command.{Command as Read}
-use Rattle.lunatic_cli.specs.declared.words.Command.TheVariants as read
-
--- what the words ask for: to run the file of this name, or to check it
-pub data Command : Type 0 where
-  Run : (name : List ℕ) → Command
-  Check : (name : List ℕ) → Command
+-- What the words of the command line, after the program's name, ask for.
+use Rattle.std.specs.Prelude.{ℕ, ◌==◌, List, [], ◌∷◌, Option, Some, None, option_and_then, if◌then◌else◌}
+use Rattle.command_words.specs.declared.asked.Command.{Command}
+use Rattle.command_words.specs.declared.asked.Command.TheVariants as command
+use Rattle.command_words.specs.declared.options.Options.{Options}
+use Rattle.command_words.specs.Meaning.{command_of}
+use Rattle.lunatic_cli.specs.declared.words.Asked.{Asked}
+use Rattle.lunatic_cli.specs.declared.words.Asked.TheVariants.{Run, Check}
 
 -- the name of the file
-abbrev pub file_of : Command → List ℕ
-file_of (Run name) = name
+abbrev pub file_of : Asked → List ℕ
+file_of (Run name options) = name
 file_of (Check name) = name
 
--- a file is named: the name is not empty and does not begin with `-`
-abbrev pub is_file_name : List ℕ → Bool
-is_file_name [] = false
-is_file_name (first ∷ rest) = not (first == 45)
+-- a run of one file by one worker is served
+abbrev pub run_of : (names : List (List ℕ)) → Options → Option Asked
+run_of (name ∷ []) options = if options.workers == 1 then Some (Run name options) else None
+run_of _ options = None
 
--- what the first word asks for of the file of this name
-abbrev pub asked_of : (first name : List ℕ) → Option Command
-asked_of first name =
-    if bytes_eq first (codes "run") then Some (Run name)
-    else if bytes_eq first (codes "check") then Some (Check name) else None
+-- what is served of what the words mean
+abbrev pub served : Command → Option Asked
+served (command.Run names options) = run_of names options
+served (command.Check name) = Some (Check name)
+served (command.Gen n) = None
+served (command.Solo pid names options) = None
 
--- what the words ask for, or none where they are refused
-abbrev pub command_of : List (List ℕ) → Option Command
-command_of (first ∷ name ∷ []) = if is_file_name name then asked_of first name else None
-command_of (first ∷ name ∷ more ∷ rest) = None
-command_of (first ∷ []) = None
-command_of [] = None
-
--- what a command of the code asks for
-abbrev pub meant_by : Read → Command
-meant_by (read.Run name) = Run name.now
-meant_by (read.Check name) = Check name.now
+-- what the words ask for, or none where they are refused: they have no meaning, or it isn't served
+abbrev pub asked_by : List (List ℕ) → Option Asked
+asked_by words = option_and_then served (command_of words)

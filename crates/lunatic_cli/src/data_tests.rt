@@ -1,4 +1,4 @@
-use crate::{Finish, Options, run_call};
+use crate::{Finish, Options, lunatic, run_call};
 use host_port::Limits;
 use outside::{MemFiles, MemOutside, MemSink, MemStream, Outside};
 use std::alloc::Global;
@@ -284,6 +284,90 @@ fn bad_areas_end_the_process(rt: HostRuntime) -> Result<(), Fail> {
         let (finish, out, _) = ran(alloc, bytes, traffic, 10)?;
         assert_eq!(rt; finish.status, 1, "{text}");
         assert_eq!(rt; out.written(), text.as_bytes());
+    }
+    Ok(())
+}
+
+/// The status that these words lead to, over a file with these bytes, and whether this text was written.
+fn told(alloc: Global, bytes: &[u8], texts: &[&str], text: &str) -> Result<(u8, bool), Fail> {
+    let file = (String::from_str(alloc, "file")?, bytes.to_vec(alloc)?);
+    let mut files = MemFiles::new(vec![in alloc; file]?, Vec::new(alloc));
+    let mut out = MemSink::new(alloc, 200, 200, Vec::new(alloc), Vec::new(alloc))?;
+    let mut words = Vec::new(alloc);
+    for word in texts {
+        words.push(String::from_str(alloc, *word)?)?;
+    }
+    let mut outsides = Vec::new(alloc);
+    for _ in 0..16 {
+        outsides.push(MemOutside::with_nothing(alloc))?;
+    }
+    if outsides.len() < 16 {
+        return Err("sixteen outsides")?;
+    }
+    let finish = lunatic(alloc, words.as_slice(), &mut files, &mut out, &mut outsides);
+    Ok((finish.status, out.written() == text.as_bytes()))
+}
+
+#[test]
+fn options_reach_the_run(rt: HostRuntime) -> Result<(), Fail> {
+    let alloc = rt.alloc();
+    for (bytes, words, status, text) in [
+        (
+            SLEEPS_5.as_slice(),
+            ["run", "--idle", "6", "--live=1", "file"].as_slice(),
+            0,
+            "process 1 done fuel 2 pages 0 mark 0\ntotal processes 1 messages 0 streams 0\n",
+        ),
+        (
+            SLEEPS_5.as_slice(),
+            ["run", "file", "--idle=5"].as_slice(),
+            7,
+            "process 1 idle fuel 2 pages 0 mark 0\ntotal processes 1 messages 0 streams 0\n",
+        ),
+        (
+            ASKS_ITS_NUMBER.as_slice(),
+            ["run", "--traffic=63", "--workers", "1", "--", "file"].as_slice(),
+            1,
+            "process 1 spent traffic fuel 1 pages 0 mark 0\ntotal processes 1 messages 0 streams 0\n",
+        ),
+        (
+            PRINTS.as_slice(),
+            ["run", "--fuel=2", "file"].as_slice(),
+            1,
+            "process 1 spent fuel fuel 2 pages 1 mark 314\ntotal processes 1 messages 0 streams 0\n",
+        ),
+        (
+            PRINTS.as_slice(),
+            ["run", "--pages=0", "file"].as_slice(),
+            3,
+            "refused: pages\n",
+        ),
+        (
+            PRINTS.as_slice(),
+            ["run", "--entry", "start", "file"].as_slice(),
+            3,
+            "refused: entry\n",
+        ),
+        (
+            PRINTS.as_slice(),
+            ["run", "--workers=2", "file"].as_slice(),
+            2,
+            "refused: words\n",
+        ),
+        (
+            PRINTS.as_slice(),
+            ["run", "--fuel=0", "file"].as_slice(),
+            2,
+            "refused: words\n",
+        ),
+        (
+            PRINTS.as_slice(),
+            ["check", "--", "file"].as_slice(),
+            0,
+            "accepted\n",
+        ),
+    ] {
+        assert_eq!(rt; told(alloc, bytes, words, text)?, (status, true), "{text}");
     }
     Ok(())
 }

@@ -12,7 +12,6 @@ mod check;
 mod finish;
 mod judge;
 mod laws;
-mod options;
 mod run;
 mod run_file;
 mod start;
@@ -24,9 +23,9 @@ mod writing;
 
 pub use alone::{Ran, run_alone};
 pub use check::check_call;
+pub use command_words::Options;
 pub use finish::{Checked, Finish};
 pub use module_validator::{Place, Verdict};
-pub use options::Options;
 pub use run_file::run_call;
 pub use top_call::lunatic;
 

@@ -9,7 +9,7 @@ ghost use Rattle.process_table.specs.Seen.{setting_of};
 ghost use Rattle.wasm_form.specs.declared.parts.Parts.{Parts};
 ghost use Rattle.module_validator.specs.ValidModule.{ValidModule};
 ghost use Rattle.tree_machine.specs.Begin.{begin};
-ghost use Rattle.lunatic_cli.specs.declared.options.Options.{Options as Opts};
+ghost use Rattle.command_words.specs.declared.options.Options.{Options as Opts};
 ghost use Rattle.lunatic_cli.specs.Ending.{WritesReport, RefusesStart, RunsNothing, RunsModule};
 ghost use Rattle.lunatic_cli.specs.Statuses.{is_stall, is_idle, EndsByLast};
 ghost use Rattle.lunatic_cli.specs.Headline.{OneJournal, tellings_of};

@@ -3,10 +3,11 @@ ghost use Rattle.std.specs.List.{list_any};
 ghost use Rattle.resource_table.specs.Steps.{told};
 ghost use Rattle.outside.specs.Causes.{Rose, RoseOrFull, Stayed, StayedBelow};
 ghost use Rattle.world_rules.specs.Book.{IsBlank};
-ghost use Rattle.lunatic_cli.specs.declared.options.Options.{Options as Opts};
+ghost use Rattle.command_words.specs.declared.options.Options.{Options as Opts};
 ghost use Rattle.lunatic_cli.specs.File.{HasModule, TellsUnread};
 ghost use Rattle.lunatic_cli.specs.Headline.{Tellings, HeadlineOfFile, tellings_of};
 ghost use Rattle.lunatic_cli.specs.Ending.{EndsRun, RunCompletes};
+ghost use Rattle.lunatic_cli.specs.Ranges.{IsRunBy};
 ghost use Rattle.lunatic_cli.specs.Statuses.{is_stall, is_idle, is_starve};
 ghost use Rattle.lunatic_cli.specs.Times.{NoneFalls, NoneGoesBack};
 
@@ -101,6 +102,9 @@ pub fn run_call<F: Files, K: Sink, O: Outside>(
         (tellings_of O.clock O.faults O.waits O.rests outsides.old.items outsides.new.items)
         (told O.Stream.taken O.Stream.put O.Stream.faults O.Stream.waits O.Stream.empties O.Stream.down)
         (K.written out.old) (K.written out.new) result.journal result.closed.items }
+
+    // The run is by these options.
+    ensures run_by { IsBlank result.journal ⊎ IsRunBy options.now result.journal }
 
     // What is judged and what is written, with each status.
     ensures ends { EndsRun (F.content files.old) name.now options.now

@@ -1,42 +1,54 @@
-ghost use Rattle.std.specs.Prelude.{◌≡◌, map, option_map, string_bytes};
-ghost use Rattle.lunatic_cli.specs.Words.{asked_of, command_of, is_file_name as names_file, meant_by};
+ghost use Rattle.std.specs.Prelude.{IfOk, map, string_bytes};
+ghost use Rattle.command_words.specs.Meaning.{Tells};
+ghost use Rattle.lunatic_cli.specs.Words.{asked_by, run_of};
+ghost use Rattle.lunatic_cli.specs.Ranges.{IsInRange};
+
+use crate::Options;
+use command_words::{Command, Name, Names, WordsFault, command};
+use std::alloc::Global;
 
 /// What the words ask for.
-#[derive(Clone, Copy, Debug)]
-pub enum Command<'a> {
-    /// To run the file of this name.
-    Run(&'a str),
-    /// To check the file of this name.
-    Check(&'a str),
+#[derive(Debug, Drop)]
+pub enum Asked {
+    /// To run a file.
+    Run {
+        /// The file, which has a name.
+        name: Name,
+        /// The options of the run: each in its range, and one worker.
+        options: Options,
+    },
+    /// To check a file.
+    Check {
+        /// The file, which has a name.
+        name: Name,
+    },
 }
 
-/// What the words ask for, or `None` where they are refused: they are not `run` or `check` and one file name.
-pub fn read_command(words: &[String]) -> Option<Command<'_>>
-    ensures { option_map meant_by result ≡ command_of (map string_bytes words.now) }
+/// What the words ask for.
+///
+/// `Words` comes exactly where they ask for nothing that is served: they have no meaning, or they ask to generate, to
+/// run one process by itself, to run several files, or for another number of workers than one. `NoMemory` comes for
+/// want of memory.
+pub fn read_words(alloc: Global, words: &[String]) -> Result<Asked, WordsFault>
+    ensures told { Tells (asked_by (map string_bytes words.now)) result }
+    ensures in_range { IfOk result IsInRange }
 {
-    match words {
-        [first, name] if is_file_name(name.as_str()) => asked(first.as_str(), name.as_str()),
-        _ => None,
+    match command(alloc, words)? {
+        Command::Run { names, options } => one_file(alloc, &names, options),
+        Command::Check { name } => Ok(Asked::Check { name }),
+        Command::Gen { .. } | Command::Solo { .. } => Err(WordsFault::Words),
     }
 }
 
-/// What the first word asks for of the file of this name.
-fn asked<'a>(first: &str, name: &'a str) -> Option<Command<'a>>
-    ensures { option_map meant_by result ≡ asked_of first.now name.now }
+/// The run of the only one of these files by one worker.
+fn one_file(alloc: Global, names: &Names, options: Options) -> Result<Asked, WordsFault>
+    ensures { Tells (run_of names.now options) result }
 {
-    match first {
-        "run" => Some(Command::Run(name)),
-        "check" => Some(Command::Check(name)),
-        _ => None,
-    }
-}
-
-/// Whether the text names a file: it is not empty and does not begin with `-`.
-fn is_file_name(name: &str) -> bool
-    ensures { result ≡ names_file name.now }
-{
-    match name.as_bytes() {
-        [] => false,
-        [first, ..] => *first != b'-',
+    match names.as_slice() {
+        [only] if options.workers == 1 => Ok(Asked::Run {
+            name: Name::copied(alloc, only.as_str())?,
+            options,
+        }),
+        _ => Err(WordsFault::Words),
     }
 }
