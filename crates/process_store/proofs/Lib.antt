@@ -13,3 +13,4 @@ mod Sending
 mod Bringing
 mod Emptying
 mod Striking
+mod Returning

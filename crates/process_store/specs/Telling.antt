@@ -11,7 +11,7 @@ use Rattle.world_rules.specs.Mail.{MailItem, is_wanted, message_count, most_mess
 use Rattle.node_state.specs.declared.outcome.Post.{Post}
 use Rattle.node_state.specs.declared.outcome.Post.TheVariants as PostIs
 use Rattle.node_state.specs.Seats.{Meaning, Seat, IsFitting}
-use Rattle.node_state.specs.Fits.{IsAnswered}
+use Rattle.node_state.specs.Fits.{IsAnswered, IsLastOf}
 use Rattle.node_mirror.specs.Slots.{Slot, Nobody, Home, Asleep, Giving, Away, Fated, Gone, IsLastAt, is_live_slot}
 use Rattle.process_store.specs.declared.store.Store.{Store}
 use Rattle.process_store.specs.Holds.{place_at}
@@ -80,7 +80,7 @@ WaitsWell memory (Away worker) = Unit {0}
 WaitsWell memory (Fated worker end) = Unit {0}
 WaitsWell memory Gone = Unit {0}
 
--- AN END FROM OUTSIDE
+-- ENDS
 
 -- the slot of a process after an end has come to it from outside its turn
 abbrev pub after_strike : {E : Type 0} → Slot E → End → Slot E
@@ -97,6 +97,15 @@ pub record AddsLast {E P : Type 0} (engines : Meaning E P) (pid : ℕ) (slot : S
   pub more : List EndMemory
   pub last : IsLastAt engines pid slot more
   pub ends : new.ends ≡ old.ends ++ more
+  pub entries : new.entries ≡ old.entries
+  pub births : new.births ≡ old.births
+  pub entry_room : new.entry_room ≡ old.entry_room
+
+-- the journal has the end of the process with this engine more
+pub record AddsEndOf {E P : Type 0} (engines : Meaning E P) (pid : ℕ) (engine : E) (old new : Book) : Type 0 where
+  pub memory : EndMemory
+  pub last : IsLastOf engines pid engine memory
+  pub ends : new.ends ≡ old.ends ++ memory ∷ []
   pub entries : new.entries ≡ old.entries
   pub births : new.births ≡ old.births
   pub entry_room : new.entry_room ≡ old.entry_room

@@ -6,6 +6,7 @@ ghost use Rattle.process_store.specs.Holds.{place_at};
 
 mod answer;
 mod bring;
+mod end;
 mod names;
 mod post;
 mod strike;
