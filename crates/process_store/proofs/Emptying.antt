@@ -137,7 +137,8 @@ vacant_shed PlaceIs.Gone vacant = tt
 
 -- where no process is at home nothing is shut
 pub nothing_closed : {E O P S L : Type 0} (tells : Told S) (place : Place E O P S L) (closed : List (Handle S)) → ((proc : Proc E O P S L) → place ≡ PlaceIs.Home proc → ⊥)
-    → ((proc : Proc E O P S L) (ask : Ask) → place ≡ PlaceIs.Asleep proc ask → ⊥) → ((proc : Proc E O P S L) (ask : Ask) → place ≡ PlaceIs.Giving proc ask → ⊥) → Sheds tells (hands_at place) closed closed
+    → ((proc : Proc E O P S L) (ask : Ask) → place ≡ PlaceIs.Asleep proc ask → ⊥) → ((proc : Proc E O P S L) (ask : Ask) → place ≡ PlaceIs.Giving proc ask → ⊥) → Sheds tells (hands_at
+    place) closed closed
 nothing_closed tells PlaceIs.Nobody closed home asleep giving = sheds_none tells closed
 nothing_closed tells (PlaceIs.Home proc) closed home asleep giving = absurd (home proc refl)
 nothing_closed tells (PlaceIs.Asleep proc ask) closed home asleep giving = absurd (asleep proc ask refl)

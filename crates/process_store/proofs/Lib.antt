@@ -14,3 +14,4 @@ mod Bringing
 mod Emptying
 mod Striking
 mod Returning
+mod StrikingAll

@@ -231,7 +231,8 @@ struck_keeps tells old new pid end was is from to k s =
       mail = length_set e.mailed;
       shed = s.shed;
       sheds = vacant_shed is e.vacant;
-      unended = unended_after (is_present was) (is_present is) old.unended new.unended _ (present_by was ∙ live_present (slot_of was) s.live) (present_few is) (sum_has e.placed is_present) k.unended s.unended;
+      unended = unended_after (is_present was) (is_present is) old.unended new.unended _ (present_by was ∙ live_present (slot_of was) s.live) (present_few is) (sum_has e.placed is_present)
+          k.unended s.unended;
       out = let a = s.out in let b = out_by is ∙ ap slot_out s.slot ∙ out_after (slot_of was) end ∙ sym (out_by was) in omega (arith, a, b);
       listed = lists_stay old new pid was is k there s.listed (λ listed. subst IsListed (sym s.slot) (listed_after (slot_of was) end listed))
           (λ here. absurd (not_true (is_here (slot_of is)) (ap is_here s.slot ∙ here_after (slot_of was) end) here));
@@ -253,7 +254,8 @@ struck_keeps tells old new pid end was is from to k s =
 -- what the store holds then
 
 module _ {E O P S L : Type 0} (tells : Told S) (old new : Store E O P S L) (pid : ℕ) (end : End) (is : Place E O P S L) (from to : Mail (ItemShown S)) (k : StoreKeeps old) where
-  gone_shows : (was : Place E O P S L) (handles : List ℕ) → slot_of is ≡ Gone → numbers_of (hands_at was) ≡ handles → Strikes tells old new pid end was is from to → Shows new (gone (held_of old) pid handles)
+  gone_shows : (was : Place E O P S L) (handles : List ℕ) → slot_of is ≡ Gone → numbers_of (hands_at was) ≡ handles → Strikes tells old new pid end was is from to → Shows new (gone (held_of
+      old) pid handles)
   gone_shows was handles there hands s = record {
     slots = λ q. slots_set old new pid was is s.emptied.placed q ∙ ap (λ slot. replaced (place_at old) pid slot q) there;
     mail = mail_emptied s.emptied;
@@ -293,9 +295,12 @@ module _ {E O P S L : Type 0} (tells : Told S) (old new : Store E O P S L) (pid 
 
   struck_by : (was : Place E O P S L) → Strikes tells old new pid end was is from to → Becomes new (struck_at (slot_of was) (held_of old) pid end)
   struck_by PlaceIs.Nobody s = let live = s.live in let h : ⊥ = cc in absurd h
-  struck_by (PlaceIs.Home proc) s = becomes new (gone (held_of old) pid (part_handles (shown_part proc))) (gone_shows (PlaceIs.Home proc) (part_handles (shown_part proc)) s.slot (numbers_hands proc) s)
-  struck_by (PlaceIs.Asleep proc ask) s = becomes new (gone (held_of old) pid (part_handles (shown_part proc))) (gone_shows (PlaceIs.Asleep proc ask) (part_handles (shown_part proc)) s.slot (numbers_hands proc) s)
-  struck_by (PlaceIs.Giving proc ask) s = becomes new (gone (held_of old) pid (part_handles (shown_part proc))) (gone_shows (PlaceIs.Giving proc ask) (part_handles (shown_part proc)) s.slot (numbers_hands proc) s)
+  struck_by (PlaceIs.Home proc) s = becomes new (gone (held_of old) pid (part_handles (shown_part proc))) (gone_shows (PlaceIs.Home proc) (part_handles (shown_part proc)) s.slot
+      (numbers_hands proc) s)
+  struck_by (PlaceIs.Asleep proc ask) s = becomes new (gone (held_of old) pid (part_handles (shown_part proc))) (gone_shows (PlaceIs.Asleep proc ask) (part_handles (shown_part proc)) s.slot
+      (numbers_hands proc) s)
+  struck_by (PlaceIs.Giving proc ask) s = becomes new (gone (held_of old) pid (part_handles (shown_part proc))) (gone_shows (PlaceIs.Giving proc ask) (part_handles (shown_part proc)) s.slot
+      (numbers_hands proc) s)
   struck_by (PlaceIs.Away worker) s = becomes new (fated (held_of old) pid worker end) (fated_shows worker s)
   struck_by (PlaceIs.Fated worker earlier) s = let live = s.live in let h : ⊥ = cc in absurd h
   struck_by PlaceIs.Gone s = let live = s.live in let h : ⊥ = cc in absurd h

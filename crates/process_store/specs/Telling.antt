@@ -110,6 +110,12 @@ pub record AddsEndOf {E P : Type 0} (engines : Meaning E P) (pid : ℕ) (engine 
   pub births : new.births ≡ old.births
   pub entry_room : new.entry_room ≡ old.entry_room
 
+-- the journal stays, but for its ends
+pub record StaysButEnds (old new : Book) : Type 0 where
+  pub entries : new.entries ≡ old.entries
+  pub births : new.births ≡ old.births
+  pub entry_room : new.entry_room ≡ old.entry_room
+
 -- each process that hasn't ended has room for its end
 abbrev pub HasEndRoom : {E O P S L : Type 0} → Store E O P S L → Book → Type 0
 HasEndRoom store book = length book.ends + store.unended ≤ length book.births

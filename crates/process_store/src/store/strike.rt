@@ -1,13 +1,17 @@
 ghost use Rattle.std.specs.Prelude.{◌≡◌, ◌+◌, ◌<◌, ◌≤◌, [], length, vec_len, vec_capacity};
 ghost use Rattle.resource_table.specs.Steps.{Sheds, told};
-ghost use Rattle.node_state.specs.Fits.{IsLastOf};
+ghost use Rattle.world_rules.specs.Ends.{all_struck};
+ghost use Rattle.world_rules.specs.Lives.{Setting};
+ghost use Rattle.world_rules.specs.World.{World, up_to};
+ghost use Rattle.node_state.specs.Fits.{IsLastOf, ShowMemory};
 ghost use Rattle.node_state.specs.Seats.{meaning};
 ghost use Rattle.node_mirror.specs.Slots.{Gone, is_live_slot};
+ghost use Rattle.node_mirror.specs.Held.{Mirrors};
 ghost use Rattle.node_mirror.specs.Steps.{struck};
 ghost use Rattle.process_store.specs.Keeps.{HasShedAll, IsVacant, StoreKeeps, is_present};
 ghost use Rattle.process_store.specs.PassOn.{PassesOn};
 ghost use Rattle.process_store.specs.Holds.{Becomes, hands_at, held_of, kept_of, place_at, slot_of};
-ghost use Rattle.process_store.specs.Telling.{AddsLast, HasEndRoom, after_strike};
+ghost use Rattle.process_store.specs.Telling.{AddsLast, HasEndRoom, StaysButEnds, after_strike};
 
 use super::Store;
 use crate::Place;
@@ -74,15 +78,16 @@ fn present_count<E: Engine, O: Outside>(place: &Place<E, O>) -> u64
 }
 
 impl<E: Engine, O: Outside> Store<E, O> {
-    /// An end comes to the process of this number from outside its turn: at home it ends, and what is kept of its memory
-    /// is recorded; where a worker has it, it is doomed; one that isn't live stays as it is. What ends or is doomed has
-    /// its mailbox closed, and no name names it.
+    /// An end comes to the process of this number from outside its turn: at home it ends, and what is kept of its
+    /// memory is recorded; where a worker has it, it is doomed; one that isn't live stays as it is. What ends or is
+    /// doomed has its mailbox closed, and no name names it.
     pub fn strike(&mut self, journal: &mut Journal, pid: u64, end: End)
         requires keeps { StoreKeeps self.old }
         requires room { HasEndRoom self.old journal.old }
         ensures keeps { StoreKeeps self.new }
         ensures held { Becomes self.new (struck (held_of self.old) pid end) }
-        ensures last { AddsLast (meaning E.stands E.phase E.memory) pid (place_at self.old pid) journal.old journal.new }
+        ensures last { AddsLast (meaning E.stands E.phase E.memory) pid (place_at self.old pid) journal.old
+            journal.new }
         ensures room { HasEndRoom self.new journal.new }
         ensures numbers { length self.new.places.items ≡ length self.old.places.items }
         ensures giver { self.new.giver ≡ self.old.giver }
@@ -107,5 +112,35 @@ impl<E: Engine, O: Outside> Store<E, O> {
         self.names.remove_process(pid);
         self.queue.clear_deadline(pid);
         self.unended -= 1 - left;
+    }
+
+    /// An end comes to all processes, one after another, by rising number.
+    pub fn strike_all(&mut self, journal: &mut Journal, end: End)
+        requires keeps { StoreKeeps self.old }
+        requires room { HasEndRoom self.old journal.old }
+        ensures keeps { StoreKeeps self.new }
+        ensures mirrors { (setting : Setting E.Program) (w : World) →
+            ShowMemory (meaning E.stands E.phase E.memory) setting →
+            Mirrors (meaning E.stands E.phase E.memory) setting w (held_of self.old) journal.old.ends →
+            Mirrors (meaning E.stands E.phase E.memory) setting (all_struck w (up_to w.numbers_drawn) end)
+            (held_of self.new) journal.new.ends }
+        ensures journal { StaysButEnds journal.old journal.new }
+        ensures room { HasEndRoom self.new journal.new }
+        ensures numbers { length self.new.places.items ≡ length self.old.places.items }
+        ensures giver { self.new.giver ≡ self.old.giver }
+        ensures came { self.new.came ≡ self.old.came }
+        ensures links { self.new.links ≡ self.old.links }
+        ensures ready { self.new.queue.ready ≡ self.old.queue.ready }
+        ensures rooms { vec_capacity self.new.closed ≡ vec_capacity self.old.closed }
+        ensures streams { PassesOn
+            (told O.Stream.taken O.Stream.put O.Stream.faults O.Stream.waits O.Stream.empties O.Stream.down)
+            (kept_of self.old) (kept_of self.new) [] [] }
+    {
+        let count = self.places.len() as u64;
+        let mut pid = 1;
+        while pid < count {
+            self.strike(journal, pid, end);
+            pid += 1;
+        }
     }
 }

@@ -213,7 +213,8 @@ returns-clause-held g c =
       few = c.requires.few;
     } in
     becomes new (gone (back (held_of old) pid Gone old.time (numbers_of c.args.proc.shed)) pid (part_handles (shown_part c.args.proc)))
-    (returned_shows tells old new pid was from to c.args.proc.shed hs c.requires.keeps returns (part_handles (shown_part c.args.proc)) (numbers_of c.args.proc.shed) old.time old.streams refl refl (returned_numbers tells old new pid was from to c.args.proc.shed hs c.requires.keeps returns c.args.proc refl))
+    (returned_shows tells old new pid was from to c.args.proc.shed hs c.requires.keeps returns (part_handles (shown_part c.args.proc)) (numbers_of c.args.proc.shed) old.time old.streams
+    refl refl (returned_numbers tells old new pid was from to c.args.proc.shed hs c.requires.keeps returns c.args.proc refl))
 
 pub returns-clause-room : goal.returns-clause-room
 returns-clause-room g c =

@@ -303,7 +303,8 @@ returns-clause-last g c =
     (read_through old.places.items pid was c.index_mut.result.now was c.replace-place.ensures.value c.index_mut.ensures.value refl) in
     let found : IsSet old.places.items (slice_set old.places.items pid was) pid was was = record { within = within; there = there; set = refl } in
     let lives : is_live_slot (slot_of was) ≡ true = ap (λ o. is_live_slot (slot_in o)) (sym there) ∙ live in
-    subst (λ slot. AddsLast {E = g.row.E.Denot} {P = g.row.E-Program.Denot} (meaning g.E.Engine.stands g.E.Engine.phase g.E.Engine.memory) pid slot c.args.journal.now c.strike_at-struck.new.journal) (sym (ap slot_in there)) c.strike_at-struck.ensures.last
+    subst (λ slot. AddsLast {E = g.row.E.Denot} {P = g.row.E-Program.Denot} (meaning g.E.Engine.stands g.E.Engine.phase g.E.Engine.memory) pid slot c.args.journal.now
+    c.strike_at-struck.new.journal) (sym (ap slot_in there)) c.strike_at-struck.ensures.last
 
 pub returns-clause-room : goal.returns-clause-room
 returns-clause-room g c =
