@@ -41,7 +41,7 @@ use Rattle.process_store.proofs.Passing.{closed_shut, in_none, stood_at, stood_h
 
 -- STREAMS BY NUMBER
 
-numbers_scratch : {S : Type 0} (scratch : Option (Kept.Scratch S)) → numbers_of (Kept.handles_in (Kept.slots_of scratch)) ≡ PartIs.handles_in (PartIs.slots_of (shown_scratch scratch))
+pub numbers_scratch : {S : Type 0} (scratch : Option (Kept.Scratch S)) → numbers_of (Kept.handles_in (Kept.slots_of scratch)) ≡ PartIs.handles_in (PartIs.slots_of (shown_scratch scratch))
 numbers_scratch None = refl
 numbers_scratch (Some scratch) = numbers_of-handles_in scratch.message.slots
 

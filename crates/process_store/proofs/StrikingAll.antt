@@ -1,4 +1,4 @@
-use Rattle.std.proofs.Common.{◌≡◌, ℕ, zero, suc, ◌+◌, ◌-◌, ◌≤◌, List, [], ◌∷◌, ◌++◌, length, vec_capacity, refl, arith, sym, ◌∙◌, ap, subst}
+use Rattle.std.proofs.Common.{◌≡◌, ℕ, zero, suc, ◌+◌, ◌-◌, ◌≤◌, List, [], ◌∷◌, ◌++◌, length, append_assoc, vec_capacity, refl, arith, sym, ◌∙◌, ap, subst}
 use Rattle.resource_table.specs.Steps.{Told}
 use Rattle.world_rules.specs.declared.halt.End.{End}
 use Rattle.world_rules.specs.declared.life.Ended.{Ended as EndMemory}
@@ -8,9 +8,9 @@ use Rattle.world_rules.specs.Lives.{Setting}
 use Rattle.world_rules.specs.World.{World, up_to}
 use Rattle.node_state.specs.Fits.{ShowMemory}
 use Rattle.node_state.specs.Seats.{Meaning}
-use Rattle.node_mirror.specs.Slots.{Slot}
+use Rattle.node_mirror.specs.Slots.{Slot, Nobody, Home, Asleep, Giving, Away, Fated, Gone}
 use Rattle.node_mirror.specs.Held.{Held, Mirrors}
-use Rattle.node_mirror.specs.Steps.{struck}
+use Rattle.node_mirror.specs.Steps.{struck, struck_at}
 use Rattle.node_mirror.proofs.Struck.{struck_mirrors}
 use Rattle.node_mirror.proofs.Strikes.{struck_last}
 use Rattle.process_store.specs.declared.store.Store.{Store}
@@ -83,6 +83,35 @@ stays_same book = record { entries = refl; births = refl; entry_room = refl }
 pub stays_more : {E P : Type 0} (engines : Meaning E P) (book then next : Book) (pid : ℕ) (slot : Slot E) → StaysButEnds book then → AddsLast engines pid slot then next → StaysButEnds book next
 stays_more engines book then next pid slot stays last = record { entries = last.entries ∙ stays.entries; births = last.births ∙ stays.births; entry_room = last.entry_room ∙ stays.entry_room }
 
+-- what a strike counts stays: who is out, the streams that were drawn, and the births
+pub record SameCounts {E : Type 0} (was is : Held E) : Type 0 where
+  pub out : is.out ≡ was.out
+  pub drawn : is.streams ≡ was.streams
+  pub births : is.births ≡ was.births
+
+counts_at : {E : Type 0} (slot : Slot E) (held : Held E) (pid : ℕ) (end : End) → SameCounts held (struck_at slot held pid end)
+counts_at Nobody held pid end = record { out = refl; drawn = refl; births = refl }
+counts_at (Home seat) held pid end = record { out = refl; drawn = refl; births = refl }
+counts_at (Asleep seat ask) held pid end = record { out = refl; drawn = refl; births = refl }
+counts_at (Giving seat ask) held pid end = record { out = refl; drawn = refl; births = refl }
+counts_at (Away worker) held pid end = record { out = refl; drawn = refl; births = refl }
+counts_at (Fated worker earlier) held pid end = record { out = refl; drawn = refl; births = refl }
+counts_at Gone held pid end = record { out = refl; drawn = refl; births = refl }
+
+pub counts_struck : {E O P S L : Type 0} (old new : Store E O P S L) (pid : ℕ) (end : End) → Becomes new (struck (held_of old) pid end) → SameCounts (held_of old) (held_of new)
+counts_struck {E = E} old new pid end becomes =
+    let same = counts_at (place_at old pid) (held_of old) pid end in
+    record {
+      out = ap (λ (h : Held E). h.out) becomes ∙ same.out;
+      drawn = ap (λ (h : Held E). h.streams) becomes ∙ same.drawn;
+      births = ap (λ (h : Held E). h.births) becomes ∙ same.births;
+    }
+
+pub ends_more : (first : List EndMemory) {E P : Type 0} (engines : Meaning E P) (then next : Book) (pid : ℕ) (slot : Slot E) → ((more : List EndMemory) × (then.ends ≡ first ++ more))
+    → AddsLast engines pid slot then next → (more : List EndMemory) × (next.ends ≡ first ++ more)
+ends_more first engines then next pid slot ends last =
+    (ends.0 ++ last.more, last.ends ∙ ap (λ (xs : List EndMemory). xs ++ last.more) ends.1 ∙ append_assoc first ends.0 last.more)
+
 -- STRIKING ALL. The end has come to those below this number; all else is as a strike leaves it.
 pub record StrikesAll {E O P S L : Type 0} (engines : Meaning E P) (tells : Told S) (old new : Store E O P S L) (book next : Book) (end : End) (pid : ℕ) : Type 0 where
   pub some : 1 ≤ pid
@@ -96,5 +125,9 @@ pub record StrikesAll {E O P S L : Type 0} (engines : Meaning E P) (tells : Told
   pub came : new.came ≡ old.came
   pub links : new.links ≡ old.links
   pub ready : new.queue.ready ≡ old.queue.ready
+  pub out : new.out ≡ old.out
+  pub drawn : new.streams ≡ old.streams
+  pub births : new.births ≡ old.births
+  pub ends : (more : List EndMemory) × (next.ends ≡ book.ends ++ more)
   pub rooms : vec_capacity new.closed ≡ vec_capacity old.closed
   pub streams : PassesOn tells (kept_of old) (kept_of new) [] []

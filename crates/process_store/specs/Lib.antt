@@ -3,3 +3,11 @@ pub mod Holds
 pub mod PassOn
 pub mod Keeps
 pub mod Telling
+pub mod Begins
+pub mod Takings
+pub mod Performing
+pub mod Late
+pub mod Seen
+pub mod NodeKeeps
+pub mod Takes
+pub mod Gives

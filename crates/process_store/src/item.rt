@@ -1,5 +1,6 @@
 ghost use Rattle.std.specs.Prelude.{◌≡◌, None, Some, option_map};
 ghost use Rattle.world_rules.specs.Mail as MailIs;
+ghost use Rattle.world_rules.specs.Mail.{tag_of};
 ghost use Rattle.host_calls.specs.Shown.{shown_message};
 ghost use Rattle.process_store.specs.Holds.{item_of};
 
@@ -67,7 +68,8 @@ impl<S: Stream> Item<S> {
 
     /// The tag of the signal, or of the message.
     pub(crate) fn its_tag(&self) -> u64
-        ensures { result ≡ self.now.tag }
+        ensures tag { result ≡ self.now.tag }
+        ensures shown { result ≡ tag_of (item_of self.now) }
     {
         self.tag
     }
@@ -77,7 +79,7 @@ impl<S: Stream> Tagged for Item<S> {
     ghost use Rattle.process_store.specs.Holds.{item_of};
     ghost use Rattle.world_rules.specs.Mail.{tag_of, is_message};
 
-    ghost tag = { λ item. item.tag };
+    ghost tag = { λ item. tag_of (item_of item) };
 
     ghost counts = { λ item. is_message (item_of item) };
 

@@ -5,11 +5,20 @@ ghost use Rattle.process_store.specs.Keeps.{StoreKeeps};
 ghost use Rattle.process_store.specs.Holds.{place_at};
 
 mod answer;
+mod arrive;
+mod begin;
 mod bring;
 mod end;
+mod late;
 mod names;
 mod post;
+mod queueing;
+mod receive;
+mod room;
 mod strike;
+mod tag;
+mod take;
+mod wait;
 
 use crate::place::is_live;
 use crate::{Item, Place};

@@ -27,6 +27,7 @@ impl<E: Engine, O: Outside> Store<E, O> {
         ensures links { self.new.links ≡ self.old.links }
         ensures queue { self.new.queue ≡ self.old.queue }
         ensures mail { self.new.mail ≡ self.old.mail }
+        ensures same { self.new ≡ record self.old { places = self.new.places } }
         ensures rooms { vec_capacity self.new.closed ≡ vec_capacity self.old.closed }
         ensures streams { PassesOn
             (told O.Stream.taken O.Stream.put O.Stream.faults O.Stream.waits O.Stream.empties O.Stream.down)

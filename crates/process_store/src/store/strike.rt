@@ -1,5 +1,6 @@
-ghost use Rattle.std.specs.Prelude.{◌≡◌, ◌+◌, ◌<◌, ◌≤◌, [], length, vec_len, vec_capacity};
+ghost use Rattle.std.specs.Prelude.{◌≡◌, ◌+◌, ◌<◌, ◌≤◌, ◌++◌, List, [], length, vec_len, vec_capacity};
 ghost use Rattle.resource_table.specs.Steps.{Sheds, told};
+ghost use Rattle.world_rules.specs.declared.life.Ended.{Ended as EndMemory};
 ghost use Rattle.world_rules.specs.Ends.{all_struck};
 ghost use Rattle.world_rules.specs.Lives.{Setting};
 ghost use Rattle.world_rules.specs.World.{World, up_to};
@@ -131,6 +132,10 @@ impl<E: Engine, O: Outside> Store<E, O> {
         ensures came { self.new.came ≡ self.old.came }
         ensures links { self.new.links ≡ self.old.links }
         ensures ready { self.new.queue.ready ≡ self.old.queue.ready }
+        ensures out { self.new.out ≡ self.old.out }
+        ensures drawn { self.new.streams ≡ self.old.streams }
+        ensures births { self.new.births ≡ self.old.births }
+        ensures ends { (more : List EndMemory) × (journal.new.ends ≡ journal.old.ends ++ more) }
         ensures rooms { vec_capacity self.new.closed ≡ vec_capacity self.old.closed }
         ensures streams { PassesOn
             (told O.Stream.taken O.Stream.put O.Stream.faults O.Stream.waits O.Stream.empties O.Stream.down)

@@ -1,8 +1,8 @@
-use Rattle.std.proofs.Common.{◌≡◌, ◌≤◌, ◌+◌, ◌∙◌, refl, arith, length, []}
+use Rattle.std.proofs.Common.{◌≡◌, ◌≤◌, ◌+◌, ◌∙◌, refl, arith, sym, append-nil, length, []}
 use Rattle.node_state.specs.Seats.{meaning}
 use Rattle.process_store.specs.Holds.{kept_of, place_at}
 use Rattle.process_store.proofs.Passing.{passes_stay, passes_then_stays}
-use Rattle.process_store.proofs.StrikingAll.{stays_more, stays_same, strikes_begin, strikes_end, strikes_go_on}
+use Rattle.process_store.proofs.StrikingAll.{counts_struck, ends_more, stays_more, stays_same, strikes_begin, strikes_end, strikes_go_on}
 use Rattle.process_store.proofs.store.Store.strike_all.Goals as goal
 
 pub loop-pid-init : goal.loop-pid-init
@@ -20,6 +20,10 @@ loop-pid-init g c =
       came = refl;
       links = refl;
       ready = refl;
+      out = refl;
+      drawn = refl;
+      births = refl;
+      ends = ([], sym (append-nil c.args.journal.now.ends));
       rooms = refl;
       streams = passes_stay _ old old refl refl refl;
     }
@@ -49,6 +53,11 @@ loop-pid-preserved g c =
       came = e.came ∙ i.came;
       links = e.links ∙ i.links;
       ready = e.ready ∙ i.ready;
+      out = (counts_struck c.loop-pid.self c.strike.new.self c.loop-pid.pid c.args.end e.held).out ∙ i.out;
+      drawn = (counts_struck c.loop-pid.self c.strike.new.self c.loop-pid.pid c.args.end e.held).drawn ∙ i.drawn;
+      births = (counts_struck c.loop-pid.self c.strike.new.self c.loop-pid.pid c.args.end e.held).births ∙ i.births;
+      ends = ends_more c.args.journal.now.ends (meaning g.E.Engine.stands g.E.Engine.phase g.E.Engine.memory) c.loop-pid.journal c.strike.new.journal c.loop-pid.pid
+          (place_at c.loop-pid.self c.loop-pid.pid) i.ends e.last;
       rooms = e.rooms ∙ i.rooms;
       streams = passes_then_stays _ (kept_of old) (kept_of c.loop-pid.self) (kept_of c.strike.new.self) [] [] i.streams e.streams;
     }
@@ -90,3 +99,15 @@ returns-clause-rooms g c = c.loop-pid.invariant.rooms
 
 pub returns-clause-streams : goal.returns-clause-streams
 returns-clause-streams g c = c.loop-pid.invariant.streams
+
+pub returns-clause-out : goal.returns-clause-out
+returns-clause-out g c = c.loop-pid.invariant.out
+
+pub returns-clause-drawn : goal.returns-clause-drawn
+returns-clause-drawn g c = c.loop-pid.invariant.drawn
+
+pub returns-clause-births : goal.returns-clause-births
+returns-clause-births g c = c.loop-pid.invariant.births
+
+pub returns-clause-ends : goal.returns-clause-ends
+returns-clause-ends g c = c.loop-pid.invariant.ends
